@@ -1,0 +1,4 @@
+mod Fields
+mod Fills
+mod Scans
+mod Strikes

@@ -1,0 +1,11 @@
+pub mod Alphabets
+pub mod BoxForms
+pub mod Boxes
+pub mod Calendar
+pub mod CheckDigit
+pub mod Examples
+pub mod Forms
+pub mod Labels
+pub mod Lawful
+pub mod Padded
+pub mod Texts
