@@ -14,17 +14,18 @@ use Rattle.std.proofs.shelf.Lists.{take-all}
 use Rattle.std.proofs.shelf.Sums.{folded-more}
 use Rattle.std.proofs.shelf.Tests.{and-parts, leb-true, false≢true}
 use Rattle.lines.specs.declared.Field.the-variants.{Number}
-use Rattle.lines.specs.Grammar.{digit, Written, value}
+use Rattle.std.specs.Text.{asciiDigit}
+use Rattle.lines.specs.Grammar.{Written, value}
 
 -- the digits of a number, of which there are at most five
-pub digits : (xs : List ℕ) → Written Number xs → All (λ b. digit b ≡ true) xs × (length xs ≤ 5)
+pub digits : (xs : List ℕ) → Written Number xs → All (λ b. asciiDigit b ≡ true) xs × (length xs ≤ 5)
 digits xs (inl w) = (w .0, w .2)
 digits xs (inr w) = absurd (false≢true (w .0))
 
 module _ (xs : List ℕ) (w : Written Number xs) (i : ℕ) (h : i < length xs) where
   pub digit-at : (48 ≤ getD xs i 0) × (getD xs i 0 ≤ 57)
   digit-at =
-      let p = and-parts _ _ (all-getD (λ b. digit b ≡ true) xs i 0 h (digits xs w .0)) in
+      let p = and-parts _ _ (all-getD (λ b. asciiDigit b ≡ true) xs i 0 h (digits xs w .0)) in
       (leb-true _ _ (p .0), leb-true _ _ (p .1))
 
   pub value-more : (n d : ℕ) → n ≡ value (take i xs) → n < 10 ^ i → d ≡ getD xs i 0 - 48 → (10 * n + d ≡ value (take (i + 1) xs)) × (10 * n + d < 10 ^ (i + 1))

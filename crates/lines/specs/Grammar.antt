@@ -1,34 +1,27 @@
 -- The shape of a line that is a transaction, and what its fields say.
 -- Assumes nothing.
 use mathlib.Core.Path.{_≡_}
-use mathlib.Core.Bool.{Bool, true, false, cond, _&&_, _||_}
+use mathlib.Core.Bool.{Bool, true, false, cond}
 use mathlib.Core.Logic.{_⊎_}
 use mathlib.Core.List.{List, [], _∷_, _++_}
 use Prim.Native.Nat.{ℕ, _+_, _-_, _*_, _≤_, _<_}
 use lib.Chars.{codes}
-use lib.Dec.{leb, eqb}
+use lib.Dec.{eqb}
 use lib.ListN.{length, take}
 use Rattle.std.specs.Iters.{folded}
+use Rattle.std.specs.Text.{asciiDigit, asciiAlnum}
 use Rattle.std.specs.shelf.Lists.{All}
 use Rattle.lines.specs.declared.Field.{Field}
 use Rattle.lines.specs.declared.Field.the-variants.{Number, Code, Batch, Expiry}
 
 -- ---- fields
 
--- 0 to 9
-abbrev pub digit : ℕ → Bool
-digit b = leb 48 b && leb b 57
-
--- 0 to 9, A to Z, a to z
-abbrev pub letterOrDigit : ℕ → Bool
-letterOrDigit b = (digit b || (leb 65 b && leb b 90)) || (leb 97 b && leb b 122)
-
--- which bytes a field may have
+-- which bytes a field may have: digits, and in a batch letters too, all of ASCII
 abbrev pub fits : Field → ℕ → Bool
-fits Number b = digit b
-fits Code b = digit b
-fits Batch b = letterOrDigit b
-fits Expiry b = digit b
+fits Number b = asciiDigit b
+fits Code b = asciiDigit b
+fits Batch b = asciiAlnum b
+fits Expiry b = asciiDigit b
 
 -- how many at least
 abbrev pub least : Field → ℕ

@@ -1,0 +1,4 @@
+pub mod Disk
+pub mod ImageDisk
+pub mod MirrorDisk
+pub mod FailingDisk
