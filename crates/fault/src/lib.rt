@@ -1,5 +1,6 @@
 // The refusals of the sampler: every call that refuses answers one `Fault`, which says which layer
 // refused, where, and why. docs/RULES.md has the table.
+ghost use mathlib.Core.List.{[], _∷_};
 ghost use mathlib.Core.Path.{_≡_};
 ghost use Rattle.fault.specs.Refusals.{numberOf, registerNumber, placeOf, damageOf, damageNumber};
 ghost use Rattle.fault.specs.Refusals.{offline, tooFewBlocks, notRegister, notFree, numberTooLarge, inStock, notInStock};
@@ -128,40 +129,24 @@ impl Fault {
     }
 
     // 4: the journal header is pending or unreadable
-    pub fn not_free() -> Fault
-        ensures { λ r. ⌜ r ≡ notFree ⌝ }
-    {
-        Fault {
-            layer: Layer::Journal(Place::Block(1), JournalCause::NotFree),
-        }
-    }
+    pub const NOT_FREE: Fault = Fault {
+        layer: Layer::Journal(Place::Block(1), JournalCause::NotFree),
+    };
 
     // 5: a pack number above 32,767
-    pub fn number_too_large() -> Fault
-        ensures { λ r. ⌜ r ≡ numberTooLarge ⌝ }
-    {
-        Fault {
-            layer: Layer::Register(Place::Whole, RegisterCause::NumberTooLarge),
-        }
-    }
+    pub const NUMBER_TOO_LARGE: Fault = Fault {
+        layer: Layer::Register(Place::Whole, RegisterCause::NumberTooLarge),
+    };
 
     // 6: the pack is already in stock
-    pub fn in_stock() -> Fault
-        ensures { λ r. ⌜ r ≡ inStock ⌝ }
-    {
-        Fault {
-            layer: Layer::Register(Place::Whole, RegisterCause::InStock),
-        }
-    }
+    pub const IN_STOCK: Fault = Fault {
+        layer: Layer::Register(Place::Whole, RegisterCause::InStock),
+    };
 
     // 7: the pack is not in stock
-    pub fn not_in_stock() -> Fault
-        ensures { λ r. ⌜ r ≡ notInStock ⌝ }
-    {
-        Fault {
-            layer: Layer::Register(Place::Whole, RegisterCause::NotInStock),
-        }
-    }
+    pub const NOT_IN_STOCK: Fault = Fault {
+        layer: Layer::Register(Place::Whole, RegisterCause::NotInStock),
+    };
 
     // 8: an item's first unlawful section, counted from 1
     pub fn unlawful(section: u8) -> Fault
@@ -173,40 +158,24 @@ impl Fault {
     }
 
     // 9: the count of committed calls has reached its end
-    pub fn last_call() -> Fault
-        ensures { λ r. ⌜ r ≡ lastCall ⌝ }
-    {
-        Fault {
-            layer: Layer::Register(Place::Whole, RegisterCause::LastCall),
-        }
-    }
+    pub const LAST_CALL: Fault = Fault {
+        layer: Layer::Register(Place::Whole, RegisterCause::LastCall),
+    };
 
     // 10: the word source gives no draw
-    pub fn no_draw() -> Fault
-        ensures { λ r. ⌜ r ≡ noDraw ⌝ }
-    {
-        Fault {
-            layer: Layer::Register(Place::Whole, RegisterCause::NoDraw),
-        }
-    }
+    pub const NO_DRAW: Fault = Fault {
+        layer: Layer::Register(Place::Whole, RegisterCause::NoDraw),
+    };
 
     // 11: a capacity that is not 1 to 512
-    pub fn bad_capacity() -> Fault
-        ensures { λ r. ⌜ r ≡ badCapacity ⌝ }
-    {
-        Fault {
-            layer: Layer::Register(Place::Whole, RegisterCause::BadCapacity),
-        }
-    }
+    pub const BAD_CAPACITY: Fault = Fault {
+        layer: Layer::Register(Place::Whole, RegisterCause::BadCapacity),
+    };
 
     // 12: a line of more than 100 bytes
-    pub fn line_too_long() -> Fault
-        ensures { λ r. ⌜ r ≡ lineTooLong ⌝ }
-    {
-        Fault {
-            layer: Layer::Intake(Place::Byte(100), IntakeCause::LineTooLong),
-        }
-    }
+    pub const LINE_TOO_LONG: Fault = Fault {
+        layer: Layer::Intake(Place::Byte(100), IntakeCause::LineTooLong),
+    };
 
     // 13: a line that is no transaction, from this byte on
     pub fn not_transaction(at: u8) -> Fault
@@ -218,13 +187,26 @@ impl Fault {
     }
 
     // 14: the caller's buffer or table is too short
-    pub fn too_short() -> Fault
-        ensures { λ r. ⌜ r ≡ tooShort ⌝ }
-    {
-        Fault {
-            layer: Layer::Register(Place::Whole, RegisterCause::TooShort),
-        }
-    }
+    pub const TOO_SHORT: Fault = Fault {
+        layer: Layer::Register(Place::Whole, RegisterCause::TooShort),
+    };
+}
+
+// The refusals that are constants, in the order of the table.
+pub fn constants() -> [Fault; 9]
+    ensures { λ r. ⌜ r ≡ notFree ∷ numberTooLarge ∷ inStock ∷ notInStock ∷ lastCall ∷ noDraw ∷ badCapacity ∷ lineTooLong ∷ tooShort ∷ [] ⌝ }
+{
+    [
+        Fault::NOT_FREE,
+        Fault::NUMBER_TOO_LARGE,
+        Fault::IN_STOCK,
+        Fault::NOT_IN_STOCK,
+        Fault::LAST_CALL,
+        Fault::NO_DRAW,
+        Fault::BAD_CAPACITY,
+        Fault::LINE_TOO_LONG,
+        Fault::TOO_SHORT,
+    ]
 }
 
 // What a refusal tells.

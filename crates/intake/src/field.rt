@@ -107,7 +107,7 @@ impl Field<'_> {
         ensures line { λ r. ⌜ r ≡ Err lineTooLong ⌝ }
     {
         self.clear();
-        Err(Fault::line_too_long())
+        Err(Fault::LINE_TOO_LONG)
     }
 
     // Scans one byte more. A confirm answers the line's entry, unless the line is empty.

@@ -84,7 +84,7 @@ fn scan_over(input: &[u8], bytes: &mut [u8], table: &mut [Entry]) -> Result<usiz
     };
     field.clear();
     if table.len() < count_lines(input) {
-        return Err(Fault::too_short());
+        return Err(Fault::TOO_SHORT);
     }
     Ok(fill(input, &mut field, table))
 }
@@ -98,7 +98,7 @@ pub fn intake(input: &[u8], buffer: &mut [u8], table: &mut [Entry]) -> Result<us
     ensures cancelled { λ _. ⌜ ((other : List ℕ) → struck other ≡ struck (now (input .entry)) → entries other ≡ entries (now (input .entry))) ⌝ }
 {
     if buffer.len() < FIELD {
-        return Err(Fault::too_short());
+        return Err(Fault::TOO_SHORT);
     }
     scan_over(input, &mut buffer[0..FIELD], table)
 }

@@ -14,7 +14,7 @@ mod tests {
 
     // An entry that no line fills.
     fn untouched() -> Entry {
-        Err(Fault::last_call())
+        Err(Fault::LAST_CALL)
     }
 
     // The entries as text, each after a space.

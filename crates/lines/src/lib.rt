@@ -180,7 +180,7 @@ fn pack_number(digits: &[u8]) -> Result<u16, Fault>
     if n <= 32767 {
         Ok(n as u16)
     } else {
-        Err(Fault::number_too_large())
+        Err(Fault::NUMBER_TOO_LARGE)
     }
 }
 

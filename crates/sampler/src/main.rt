@@ -60,7 +60,7 @@ fn read_input(rt: &LibcRuntime) -> Result<Vec<u8>, AnyError> {
 fn empty_table(heap: Global, count: usize) -> Result<Vec<Entry>, AnyError> {
     let mut table = Vec::with_capacity(heap, count)?;
     for _ in 0..count {
-        table.push(Err(Fault::too_short()))?;
+        table.push(Err(Fault::TOO_SHORT))?;
     }
     Ok(table)
 }

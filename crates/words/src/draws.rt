@@ -27,7 +27,7 @@ pub fn draw<S: Source>(source: &S, width: Width, place: u64) -> Result<Drawn, Fa
     ensures lawful { λ r. ⌜ (place ≤ 2 ^ 38 → r ≡ okOr (drawOf (words (now (source .entry))) (width .value) place) noDraw) ⌝ }
     ensures within { λ r. ⌜ made r (λ d. (d .value < width .value) × (d .used ≤ 64)) ⌝ }
 {
-    look(source, width, place).ok_or(Fault::no_draw())
+    look(source, width, place).ok_or(Fault::NO_DRAW)
 }
 
 fn look<S: Source>(source: &S, width: Width, place: u64) -> Option<Drawn>

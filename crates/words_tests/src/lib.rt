@@ -1,37 +1,35 @@
 // Draws at chosen widths and at the ends of tapes, the values worked out by hand.
-use words::Fallback;
-use words::FallbackSource;
-use words::Source;
-use words::Tape;
-use words::TapeSource;
-use words::Width;
-
-// Whether a draw of the width from the place gives the value, and uses so many words.
-pub fn draws<S: Source>(source: &S, width: u16, place: u64, value: u16, used: u8) -> bool {
-    let Some(width) = Width::new(width) else {
-        return false;
-    };
-    match words::draw(source, width, place) {
-        Ok(drawn) => drawn.value == value && drawn.used == used,
-        Err(_) => false,
-    }
-}
-
-// Whether it is refused with number 10.
-pub fn refuses<S: Source>(source: &S, width: u16, place: u64) -> bool {
-    let Some(width) = Width::new(width) else {
-        return false;
-    };
-    match words::draw(source, width, place) {
-        Ok(_) => false,
-        Err(fault) => fault.number() == 10,
-    }
-}
-
 #[cfg(test)]
 mod tests {
-    use super::*;
     use std::test::*;
+    use words::Fallback;
+    use words::FallbackSource;
+    use words::Source;
+    use words::Tape;
+    use words::TapeSource;
+    use words::Width;
+
+    // Whether a draw of the width from the place gives the value, and uses so many words.
+    fn draws<S: Source>(source: &S, width: u16, place: u64, value: u16, used: u8) -> bool {
+        let Some(width) = Width::new(width) else {
+            return false;
+        };
+        match words::draw(source, width, place) {
+            Ok(drawn) => drawn.value == value && drawn.used == used,
+            Err(_) => false,
+        }
+    }
+
+    // Whether it is refused with number 10.
+    fn refuses<S: Source>(source: &S, width: u16, place: u64) -> bool {
+        let Some(width) = Width::new(width) else {
+            return false;
+        };
+        match words::draw(source, width, place) {
+            Ok(_) => false,
+            Err(fault) => fault.number() == 10,
+        }
+    }
 
     #[test]
     fn widths() -> Result<(), Fail> {

@@ -17,7 +17,7 @@ returns-then-buffer-lt-FIELD c =
     let buffer = c .args .buffer .now in
     let short : ltb (length buffer) 100 ≡ true = lt-ltb (length buffer) 100 (c .if-buffer-lt-FIELD .taken) in
     record {
-      answer = ap Err (c .too-short .ensures) ∙ sym (ap (λ b. answer (b || overfull input table) input) short);
+      answer = sym (ap (λ b. answer (b || overfull input table) input) short);
       filled = sym (ap (λ b. filled (b || overfull input table) input table) short);
       wiped = sym (ap (λ b. cond b buffer (replicate 100 0 ++ drop 100 buffer)) short);
       cancelled = λ other. entries-struck other input;

@@ -23,7 +23,7 @@ returns-then-table-count-lines c =
     let over : ltb (length (c .args .table .now)) (length (entries (c .args .input .now))) ≡ true = lt-ltb _ _ (omega (arith, entry-count (c .args .input .now))) in
     let blank : c .drop-field .last .self .0 ≡ zeros = c .drop-field .ensures ∙ ap (λ n. replicate n 0) (ap length (c .clear .ensures .bytes)) in
     record {
-      answer = ap Err (c .too-short .ensures) ∙ sym (ap (λ b. answer b (c .args .input .now)) over);
+      answer = sym (ap (λ b. answer b (c .args .input .now)) over);
       filled = sym (ap (λ b. filled b (c .args .input .now) (c .args .table .now)) over);
       wiped = search needs;
     }

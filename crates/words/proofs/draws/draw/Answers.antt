@@ -13,7 +13,7 @@ returns g c =
     let words = g .S·Source .words (c .args .source .now) in
     let width = c .args .width .value in
     let place = c .args .place in
-    let value : c .ok-or .result ≡ okOr (drawOf (addressable words) width place) noDraw = simp (c .ok-or .ensures .value, c .look .ensures, c .no-draw .ensures) in
+    let value : c .ok-or .result ≡ okOr (drawOf (addressable words) width place) noDraw = simp (c .ok-or .ensures .value, c .look .ensures) in
     record {
       value = value;
       lawful = λ near. value ∙ ap (λ o. okOr o noDraw) (draw-near words width place (omega arith));
