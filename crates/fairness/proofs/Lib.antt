@@ -1,0 +1,10 @@
+pub mod Binomials
+pub mod Counts
+pub mod Enumerations
+pub mod Examples
+pub mod Fairness
+pub mod Groups
+pub mod Keeping
+pub mod Slots
+pub mod Stores
+pub mod Sums

@@ -1,0 +1,23 @@
+// Laws of the reservoir, each the contract of a function, over any item.
+ghost use Rattle.pairing.specs.Example.{Worked};
+ghost use Rattle.pairing.specs.Rules.{Reachable-is-lawful, Numbers-follow, Calls-possible};
+
+// The numbers of a reservoir after a call are those of the step on its numbers.
+pub fn numbers_follow<X>()
+    ensures { λ _. ⌜ Numbers-follow X ⌝ }
+{}
+
+// Every reservoir that can be reached keeps the rules.
+pub fn reachable_is_lawful<X>()
+    ensures { λ _. ⌜ Reachable-is-lawful X ⌝ }
+{}
+
+// The numbers of a lawful reservoir allow each call on it that comes before the last.
+pub fn calls_are_possible<X>()
+    ensures { λ _. ⌜ Calls-possible X ⌝ }
+{}
+
+// With capacity 2 and the words 2 and 0: Store 10, 11, 12, 13, Take 11, Take 10 leave 13 in slot 0.
+pub fn example_holds<X>()
+    ensures { λ _. ⌜ Worked X ⌝ }
+{}
