@@ -1,6 +1,5 @@
 -- The worked example. Assumes nothing.
-use mathlib.Core.Path.{_≡_, refl}
-use Prim.Native.Nat.{ℕ}
+use mathlib.Core.Path.{refl}
 use native.Mathlib.Omega.{arith}
 use Rattle.words.proofs.Limits.{small-is-drawn}
 use Rattle.words.proofs.Looks.{draw-sure}

@@ -1,5 +1,5 @@
 -- The numbers after a call are those of the step on the numbers. Assumes nothing.
-use mathlib.Core.Path.{_≡_, refl, sym, ap, _∙_}
+use mathlib.Core.Path.{_≡_, refl, ap}
 use mathlib.Core.List.{List}
 use Prim.Native.Nat.{ℕ}
 use lib.ListN.{length}
@@ -10,8 +10,8 @@ use Rattle.words.specs.declared.draws.Drawn.{Drawn}
 use Rattle.pairing.specs.declared.Effect.{Effect}
 use Rattle.pairing.specs.declared.Effect.the-variants.{Enters, Replaces, StaysOut}
 use Rattle.pairing.specs.declared.counts.Counts.{Counts}
-use Rattle.pairing.specs.Reservoir.{Slot, Reservoir, store, taken, effect, placed, filledBy, slotOf, slotsAfter, freed, oneMoreIf, oneMoreUnless}
-use Rattle.pairing.specs.Steps.{countsOf, filledOf, afterStore, afterTakeIn, afterTakeOut}
+use Rattle.pairing.specs.Reservoir.{Slot, Reservoir, store, taken, effect, filledBy, slotOf}
+use Rattle.pairing.specs.Steps.{countsOf, filledOf, afterStore, afterTakeIn}
 use Rattle.pairing.specs.Rules.{afterTake, Numbers-follow}
 use Rattle.pairing.proofs.Slots.{length-placed, length-freed}
 

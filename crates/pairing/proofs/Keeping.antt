@@ -1,17 +1,17 @@
 -- The ways of a store, and that each call keeps the ranges. Assumes nothing.
-use mathlib.Core.Path.{_≡_, refl, sym, ap, subst, _∙_}
+use mathlib.Core.Path.{_≡_, refl}
 use mathlib.Core.Bool.{Bool, true, false, cond}
-use Prim.Native.Nat.{ℕ, _+_, _-_, _*_, min, _≤_, _<_}
+use Prim.Native.Nat.{ℕ, _+_, _≤_, _<_}
 use native.Mathlib.Omega.{arith}
 use lib.Dec.{ltb}
-use Rattle.std.proofs.shelf.Tests.{ltb-true, ltb-false, cond-true, cond-false}
+use Rattle.std.proofs.shelf.Tests.{ltb-true, ltb-false}
 use Rattle.words.specs.declared.draws.Drawn.{Drawn}
 use Rattle.pairing.specs.declared.Effect.{Effect}
 use Rattle.pairing.specs.declared.Effect.the-variants.{Enters, Replaces, StaysOut}
 use Rattle.pairing.specs.declared.counts.Counts.{Counts}
 use Rattle.pairing.specs.Reservoir.{widthOf, effectOf, c1After, c2After}
 use Rattle.pairing.specs.Ranges.{Ranges, noCounts}
-use Rattle.pairing.specs.Steps.{widthAt, effectAt, sampledAfter, afterStore, afterTakeIn, afterTakeOut}
+use Rattle.pairing.specs.Steps.{widthAt, sampledAfter, afterStore, afterTakeIn, afterTakeOut}
 
 -- the five ways of a store: what is known, the width and the effect
 pub data Way (m n c1 c2 d : ℕ) : ℕ → Effect → Type 0 where

@@ -3,7 +3,7 @@ use mathlib.Core.Path.{_≡_, refl, sym, ap, subst, _∙_}
 use mathlib.Core.Bool.{Bool, true, false}
 use mathlib.Core.Logic.{⊎-elim, _≢_}
 use mathlib.Core.List.{List}
-use Prim.Native.Nat.{ℕ, _+_, _-_, _≤_, _<_}
+use Prim.Native.Nat.{ℕ, _≤_, _<_}
 use native.Mathlib.Omega.{arith}
 use lib.Dec.{eqb}
 use lib.ListN.{length}
@@ -19,7 +19,7 @@ use Rattle.pairing.specs.Rules.{one, occurs, countBelow, Lawful, Reachable, st
 use Rattle.pairing.proofs.Following.{store-follows, take-follows}
 use Rattle.pairing.proofs.Keeping.{store-keeps, width-fits, take-in-keeps, take-out-keeps, empty-keeps}
 use Rattle.pairing.proofs.Slots.{Found, there, nowhere, found, occurs-placed, occurs-taken, occurs-fewer}
-use Rattle.pairing.proofs.Stock.{one-bound, count-none, count-bound, with-same, with-other, count-with, without-same, without-other, count-without, slots-less}
+use Rattle.pairing.proofs.Stock.{one-bound, count-none, count-bound, with-same, with-other, count-with, without-other, count-without, slots-less}
 
 -- each number is in as many slots at most as it is in stock
 abbrev Tidy : {X : Type 0} → List (Slot X) → (ℕ → Bool) → Type 0

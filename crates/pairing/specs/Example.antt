@@ -1,13 +1,12 @@
 -- A worked example: capacity 2, the words 2 and 0; Store 10, 11, 12, 13, Take 11, Take 10.
 -- Assumes nothing.
-use mathlib.Core.List.{List, [], _∷_}
+use mathlib.Core.List.{[], _∷_}
 use mathlib.Core.Path.{_≡_}
 use Prim.Native.Nat.{ℕ}
 use Rattle.std.specs.declared.option.Option.{Option}
 use Rattle.std.specs.declared.option.Option.the-variants.{Some}
-use Rattle.words.specs.declared.draws.Drawn.{Drawn}
 use Rattle.words.specs.Draws.{drawOf}
-use Rattle.pairing.specs.Reservoir.{Slot, Reservoir, empty, store, taken, width}
+use Rattle.pairing.specs.Reservoir.{Reservoir, empty, store, taken, width}
 
 -- after each call
 abbrev pub after1 : {X : Type 0} → X → Reservoir X

@@ -1,4 +1,5 @@
 pub mod Example
+pub mod Moves
 pub mod Ranges
 pub mod Reservoir
 pub mod Rules

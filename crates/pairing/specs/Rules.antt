@@ -5,7 +5,9 @@ use mathlib.Core.List.{List, [], _∷_}
 use mathlib.Core.Path.{_≡_}
 use Prim.Native.Nat.{ℕ, zero, suc, _+_, _≤_, _<_}
 use lib.Dec.{eqb}
+use lib.ListN.{length, getD}
 use Rattle.std.specs.Options.{isSome}
+use Rattle.std.specs.declared.option.Option.the-variants.{Some}
 use Rattle.words.specs.declared.draws.Drawn.{Drawn}
 use Rattle.pairing.specs.declared.counts.Counts.{Counts}
 use Rattle.pairing.specs.Ranges.{Ranges}
@@ -73,3 +75,11 @@ pub record Calls-possible (X : Type 0) : Type 0 where
   -- a take of a number in stock, in a slot or in none
   pub take-possible : (r : Reservoir X) → Lawful r → (number : ℕ) → CanCall (countsOf r) → r .stock number ≡ true →
       CanTake (isSome (slotOf (r .slots) number)) (countsOf r)
+
+-- ---- in a lawful reservoir a number is found in the slot where it stands, and in no other
+
+pub record Slots-distinct (X : Type 0) : Type 0 where
+  pub slot-found : (r : Reservoir X) → Lawful r → (h : ℕ) (d : Slot X) → h < length (r .slots) →
+      slotOf (r .slots) (getD (r .slots) h d .number) ≡ Some h
+  pub slots-apart : (r : Reservoir X) → Lawful r → (h i : ℕ) (d : Slot X) → h < length (r .slots) → i < length (r .slots) →
+      getD (r .slots) h d .number ≡ getD (r .slots) i d .number → h ≡ i

@@ -9,6 +9,8 @@ pub use laws::calls_are_possible;
 pub use laws::example_holds;
 pub use laws::numbers_follow;
 pub use laws::reachable_is_lawful;
+pub use laws::slots_are_distinct;
+pub use laws::slots_follow;
 
 // What a store does to the sample.
 #[derive(Clone, Copy)]

@@ -1,5 +1,5 @@
 ghost use mathlib.Core.Path.{_≡_};
-ghost use Prim.Native.Nat.{_≤_, _<_};
+ghost use Prim.Native.Nat.{_-_, _≤_, _<_};
 ghost use Rattle.std.specs.Options.{mapped};
 ghost use Rattle.std.specs.Slices.{found};
 ghost use Rattle.std.specs.Numbers.{Checked};
@@ -63,6 +63,13 @@ impl Counters {
             Effect::Replaces(slot) => Some(slot),
             Effect::StaysOut => None,
         }
+    }
+
+    // The last slot of the sample, which a take in the sample moves into the slot that it frees.
+    pub fn last(self) -> Option<u16>
+        ensures { λ r. ⌜ Checked r (0 < self .counts .sampled) (self .counts .sampled - 1) ⌝ }
+    {
+        self.counts.sampled.checked_sub(1)
     }
 
     // The counters after a store with this draw.
