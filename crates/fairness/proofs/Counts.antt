@@ -8,13 +8,16 @@ use native.Mathlib.Nat.{zero-mul, one-mul, mul-zero, mul-one, suc-mul, mul-add, 
 use native.Mathlib.Omega.{arith}
 use lib.Dec.{ltb}
 use Rattle.std.proofs.shelf.Tests.{cases-eq, cases-lt, lt-ltb, le-ltb}
-use Rattle.pairing.specs.Reservoir.{Reservoir, empty, with, without, width, store, slotOf, taken}
-use Rattle.fairness.specs.Histories.{Call, Store, Take, Possible, stockAfter, sizeAfter, dueAfter, bit}
-use Rattle.fairness.specs.Laws.{tally, weight, factor, product, none}
+use Rattle.pairing.specs.Reservoir.{Reservoir, empty, with, without, width, store, taken}
+use Rattle.pairing.specs.Rules.{bit, occurs, countBelow}
+use Rattle.pairing.proofs.Slots.{search-found, occurs-other}
+use Rattle.pairing.proofs.Stock.{with-same, with-other, without-same, without-other, count-none}
+use Rattle.pairing.proofs.Sums.{total, total-like, total-add, count-total, count-at}
+use Rattle.fairness.specs.Histories.{Call, Store, Take, Possible, stockAfter, sizeAfter, dueAfter}
+use Rattle.fairness.specs.Laws.{weight, factor, product, none}
 use Rattle.fairness.proofs.Binomials.{weight-in, weight-out, weight-take, weight-full, weight-other}
-use Rattle.fairness.proofs.Sums.{total, total-like, total-none, total-add, total-times, tally-total, every-true}
-use Rattle.fairness.proofs.Slots.{occ, slot-at, after-other}
-use Rattle.fairness.proofs.Keeping.{with-here, with-other, without-here, without-other, tally-at, Stocked, stocked-none, stocked-with, stocked-without, stocked-some, Keeps, keeps-empty, keeps-store, keeps-taken, breadth, width-kept}
+use Rattle.fairness.proofs.Sums.{total-times, every-true}
+use Rattle.fairness.proofs.Keeping.{Stocked, stocked-none, stocked-with, stocked-without, stocked-some, Keeps, keeps-empty, keeps-store, keeps-taken, breadth, width-kept}
 use Rattle.fairness.proofs.Groups.{agree, left}
 use Rattle.fairness.proofs.Stores.{lacks, paired-total, filling-total, out-full-total, in-full-total}
 
@@ -29,7 +32,7 @@ ways (c ∷ h) f r = stepped c (ways h f) r
 
 -- how many packs in stock the group has
 abbrev pub sizeIn : ℕ → (ℕ → Bool) → (ℕ → Bool) → ℕ
-sizeIn b st a = tally (λ q. st q && a q) b
+sizeIn b st a = countBelow (λ q. st q && a q) b
 
 -- a sum over the draw lists of some calls, after which each group is the sample under k times its weight many
 pub record Law {X : Type 0} (b m n d : ℕ) (st : ℕ → Bool) (k : ℕ) (over : (Reservoir X → ℕ) → ℕ) : Type 0 where
@@ -76,20 +79,20 @@ size-with : (b : ℕ) (st a : ℕ → Bool) (p : ℕ) → p < b → st p ≡ fal
 size-with b st a p within off =
     omega (
       arith,
-      tally-at (λ q. with st p q && a q) (λ q. st q && a q) p b within (λ q ne. ap (λ t. t && a q) (with-other st p q ne)),
+      count-at (λ q. with st p q && a q) (λ q. st q && a q) p b within (λ q ne. ap (λ t. t && a q) (with-other st p q ne)),
       ap (λ t. bit (t && a p)) off,
-      ap (λ t. bit (t && a p)) (with-here st p),
+      ap (λ t. bit (t && a p)) (with-same st p p refl),
     )
 
 pub size-more : (b : ℕ) (st a : ℕ → Bool) (y : ℕ) → y < b → st y ≡ true → a y ≡ false → sizeIn b st (with a y) ≡ sizeIn b st a + 1
 size-more b st a y within on out =
     omega (
       arith,
-      tally-at (λ q. st q && with a y q) (λ q. st q && a q) y b within (λ q ne. ap (λ t. st q && t) (with-other a y q ne)),
+      count-at (λ q. st q && with a y q) (λ q. st q && a q) y b within (λ q ne. ap (λ t. st q && t) (with-other a y q ne)),
       ap (λ t. bit (t && a y)) on,
       ap bit out,
       ap (λ t. bit (t && with a y y)) on,
-      ap bit (with-here a y),
+      ap bit (with-same a y y refl),
     )
 
 -- against the stock without p
@@ -98,10 +101,10 @@ size-left : (b : ℕ) (st a c : ℕ → Bool) (p : ℕ) → p < b → st p ≡ t
 size-left b st a c p within on same =
     omega (
       arith,
-      tally-at (λ q. st q && c q) (λ q. without st p q && a q) p b within
+      count-at (λ q. st q && c q) (λ q. without st p q && a q) p b within
           (λ q ne. ap (λ t. t && c q) (sym (without-other st p q ne)) ∙ ap (λ t. without st p q && t) (same q ne)),
       ap (λ t. bit (t && c p)) on,
-      ap (λ t. bit (t && a p)) (without-here st p),
+      ap (λ t. bit (t && a p)) (without-same st p p refl),
     )
 
 parted : (s g : Bool) → bit (s && g) + bit (s && not g) ≡ bit s
@@ -109,14 +112,14 @@ parted true true = refl
 parted true false = refl
 parted false g = refl
 
-lacking : (b : ℕ) (st a : ℕ → Bool) → sizeIn b st a + total (lacks st a) b ≡ tally st b
+lacking : (b : ℕ) (st a : ℕ → Bool) → sizeIn b st a + total (lacks st a) b ≡ countBelow st b
 lacking b st a =
-    let one : sizeIn b st a ≡ total (λ q. bit (st q && a q)) b = tally-total (λ q. st q && a q) b in
+    let one : sizeIn b st a ≡ total (λ q. bit (st q && a q)) b = count-total (λ q. st q && a q) b in
     let two : total (λ q. bit (st q && a q) + lacks st a q) b ≡ total (λ q. bit (st q && a q)) b + total (lacks st a) b =
     total-add (λ q. bit (st q && a q)) (lacks st a) b in
     let three : total (λ q. bit (st q && a q) + lacks st a q) b ≡ total (λ q. bit (st q)) b =
     total-like (λ q. bit (st q && a q) + lacks st a q) (λ q. bit (st q)) b (λ q l. parted (st q) (a q)) in
-    omega (arith, tally-total st b)
+    omega (arith, count-total st b)
 
 -- ---- sums over sums
 
@@ -271,9 +274,9 @@ module _ {X : Type 0} (b m n d : ℕ) (st : ℕ → Bool) (k : ℕ) (over : (Res
     }
 
   module _ (p : ℕ) (on : st p ≡ true) where
-    taken-occ : (r : Reservoir X) (q : ℕ) → (q ≡ p → ⊥) → occ q (taken r p .slots) ≡ occ q (r .slots)
+    taken-occurs : (r : Reservoir X) (q : ℕ) → (q ≡ p → ⊥) → occurs q (taken r p .slots) ≡ occurs q (r .slots)
     unfolding taken
-    taken-occ r q ne = after-other (r .slots) p q (slotOf (r .slots) p) (slot-at (r .slots) p) ne
+    taken-occurs r q ne = occurs-other q p (r .slots) (search-found (r .slots) p) ne
 
     even-take : (a : ℕ → Bool) →
         over (λ r. bit (agree b (without st p) (taken r p .slots) a)) ≡ k * weight (min m (n - 1 + (d + 1))) (d + 1) (sizeIn b (without st p) a)
@@ -285,13 +288,13 @@ module _ {X : Type 0} (b m n d : ℕ) (st : ℕ → Bool) (k : ℕ) (over : (Res
         let one : over (λ r. bit (agree b st (r .slots) (with a p))) ≡ k * weight t d (s + 1) =
         l .even (with a p)
         ∙ ap (λ x. k * weight t d x) {x = sizeIn b st (with a p)} {y = s + 1}
-        (omega (arith, size-left b st a (with a p) p within on (λ q ne. with-other a p q ne), ap bit (with-here a p))) in
+        (omega (arith, size-left b st a (with a p) p within on (λ q ne. with-other a p q ne), ap bit (with-same a p p refl))) in
         let two : over (λ r. bit (agree b st (r .slots) (without a p))) ≡ k * weight t d s =
         l .even (without a p)
         ∙ ap (λ x. k * weight t d x) {x = sizeIn b st (without a p)} {y = s}
-        (omega (arith, size-left b st a (without a p) p within on (λ q ne. without-other a p q ne), ap bit (without-here a p))) in
+        (omega (arith, size-left b st a (without a p) p within on (λ q ne. without-other a p q ne), ap bit (without-same a p p refl))) in
         l .like (λ r. bit (agree b (without st p) (taken r p .slots) a)) (λ r. bit (agree b st (r .slots) (with a p)) + bit (agree b st (r .slots) (without a p)))
-        (λ r kp. left b st (r .slots) (kp .slots) p within (taken r p .slots) a on (λ q ne. taken-occ r q ne))
+        (λ r kp. left b st (r .slots) (kp .slots) p within (taken r p .slots) a on (λ q ne. taken-occurs r q ne))
         ∙ l .sum (λ r. bit (agree b st (r .slots) (with a p))) (λ r. bit (agree b st (r .slots) (without a p)))
         ∙ omega (arith, one, two, mul-add k (weight t d (s + 1)) (weight t d s))
         ∙ ap (λ x. k * x) (weight-take t d s ∙ weight-like {t = t} {t′ = min m (n - 1 + (d + 1))} {d = suc d} {d′ = d + 1} {s = s} {s′ = s} (omega arith) (omega arith) refl)
@@ -312,7 +315,7 @@ law-start b m = record {
   like = λ f g same. same (empty m) (keeps-empty b m);
   even = λ a.
       ap bit (every-true (λ q. not (none q) || Bool·beq false (a q)) b (λ q l. refl))
-      ∙ sym (ap (λ x. 1 * x) (fit (min m (0 + 0)) 0 (sizeIn b none a) refl (omega (arith, tally-total none b, total-none b))));
+      ∙ sym (ap (λ x. 1 * x) (fit (min m (0 + 0)) 0 (sizeIn b none a) refl (omega (arith, count-none b))));
   stocked = stocked-none b;
 }
 

@@ -9,9 +9,11 @@ use native.Mathlib.Omega.{arith}
 use lib.Dec.{eqb, ltb}
 use Rattle.std.proofs.shelf.Tests.{ne-eqb, cases-lt, ltb-true, lt-ltb, le-ltb, and-parts, false≢true}
 use Rattle.pairing.specs.Reservoir.{Reservoir, empty, with, without, width, widthOf, store, taken}
-use Rattle.fairness.specs.Histories.{Call, Store, Take, Possible, stockAfter, sizeAfter, dueAfter, widths, below, each, drawLists, bit, count, same, run, admits}
-use Rattle.fairness.specs.Laws.{holds, every, tally, found, none, Enumerated, Only-the-sample-is-drawn, Found-is-same-set}
-use Rattle.fairness.proofs.Sums.{total, total-like, total-none, total-mark, every-true, every-at-each}
+use Rattle.pairing.specs.Rules.{bit, countBelow}
+use Rattle.pairing.proofs.Sums.{total, total-like, total-none, total-mark}
+use Rattle.fairness.specs.Histories.{Call, Store, Take, Possible, stockAfter, sizeAfter, dueAfter, widths, below, each, drawLists, count, same, run, admits}
+use Rattle.fairness.specs.Laws.{holds, every, found, none, Enumerated, Only-the-sample-is-drawn, Found-is-same-set}
+use Rattle.fairness.proofs.Sums.{every-true, every-at-each}
 use Rattle.fairness.proofs.Slots.{holds-none}
 use Rattle.fairness.proofs.Keeping.{Keeps, keeps-empty, keeps-store, keeps-taken, breadth, width-kept}
 use Rattle.fairness.proofs.Counts.{ways}
@@ -141,7 +143,7 @@ settled m h possible ds e =
       size = k .size;
       due = k .due;
       width = width-is m (sizeAfter 0 h) (dueAfter 0 h) (stockAfter none h) (run (empty m) h ds) k;
-      counted = k .size ∙ k .stocked .counted ∙ ap (λ (s : ℕ → Bool). tally s 32768) (sym (k .stock));
+      counted = k .size ∙ k .stocked .counted ∙ ap (λ (s : ℕ → Bool). countBelow s 32768) (sym (k .stock));
       filled = k .filled;
     }
 

@@ -5,10 +5,10 @@ use Prim.Native.Nat.{ℕ, _*_}
 use native.Mathlib.Omega.{arith}
 use Rattle.std.proofs.shelf.Tests.{and-right}
 use Rattle.pairing.specs.Reservoir.{with, store, taken}
+use Rattle.pairing.proofs.Stock.{count-none}
+use Rattle.pairing.proofs.Sums.{count-like}
 use Rattle.fairness.specs.Histories.{Possible, stockAfter}
 use Rattle.fairness.specs.Laws.{choose, weight, none, times, example, Example}
-use Rattle.fairness.proofs.Sums.{tally-total, total-none}
-use Rattle.fairness.proofs.Keeping.{tally-like}
 use Rattle.fairness.proofs.Counts.{sizeIn, size-more}
 use Rattle.fairness.proofs.Fairness.{counting}
 
@@ -20,7 +20,7 @@ module _ {X : Type 0} (x : X) where
   left = stockAfter none (example x)
 
   none-in : sizeIn 32768 left none ≡ 0
-  none-in = tally-like (λ q. left q && none q) none 32768 (λ q l. and-right (left q) false refl) ∙ tally-total none 32768 ∙ total-none 32768
+  none-in = count-like (λ q. left q && none q) none 32768 (λ q l. and-right (left q) false refl) ∙ count-none 32768
 
   -- of a group of s packs
   of-size : (a : ℕ → Bool) (s : ℕ) → sizeIn 32768 left a ≡ s → times 2 (example x) a ≡ 2 * weight 2 2 s

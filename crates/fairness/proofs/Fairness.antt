@@ -9,7 +9,8 @@ use native.Mathlib.Omega.{arith}
 use lib.Dec.{ltb}
 use Rattle.std.proofs.shelf.Tests.{cases-order, cond-both, ltb-true, ltb-false}
 use Rattle.pairing.specs.Reservoir.{empty}
-use Rattle.fairness.specs.Histories.{Call, Store, Take, stockAfter, bit}
+use Rattle.pairing.specs.Rules.{bit}
+use Rattle.fairness.specs.Histories.{Call, Store, Take, stockAfter}
 use Rattle.fairness.specs.Laws.{holds, every, found, factor, product, weightOf, none, Counting, Fair}
 use Rattle.fairness.proofs.Keeping.{keeps-empty}
 use Rattle.fairness.proofs.Groups.{agree}

@@ -11,11 +11,15 @@ use Rattle.std.proofs.shelf.Tests.{lt-ltb, le-ltb}
 use Rattle.pairing.specs.declared.Effect.{Effect}
 use Rattle.pairing.specs.declared.Effect.the-variants.{Enters, Replaces, StaysOut}
 use Rattle.pairing.specs.Reservoir.{Slot, Reservoir, with, effect, placed, store}
-use Rattle.fairness.specs.Histories.{bit}
-use Rattle.fairness.specs.Laws.{holds, tally}
-use Rattle.fairness.proofs.Sums.{total, total-like, total-times, total-tail, total-below, total-above, every-false}
-use Rattle.fairness.proofs.Slots.{occ, holds-none, by-places, by-packs}
-use Rattle.fairness.proofs.Keeping.{with-here, Keeps, Way, paired-in, paired-out, fills, replaces, passes, way-kept, breadth, breadth-due, breadth-fills, breadth-full}
+use Rattle.pairing.specs.Rules.{bit, occurs, countBelow}
+use Rattle.pairing.proofs.Keeping.{Way, pairs-in, pairs-out, fills, replaces, passes}
+use Rattle.pairing.proofs.Lawfulness.{tidy-stocked}
+use Rattle.pairing.proofs.Stock.{with-same, by-packs}
+use Rattle.pairing.proofs.Sums.{total, total-like}
+use Rattle.fairness.specs.Laws.{holds}
+use Rattle.fairness.proofs.Sums.{total-times, total-tail, total-below, total-above, every-false}
+use Rattle.fairness.proofs.Slots.{holds-none, by-places}
+use Rattle.fairness.proofs.Keeping.{Keeps, way-kept, breadth, breadth-due, breadth-fills, breadth-full}
 use Rattle.fairness.proofs.Groups.{agree, bit-and, found-size, entered, stayed, replaced-in, replaced-out}
 
 -- a test as it is, or turned
@@ -55,7 +59,7 @@ module _ {X : Type 0} (b m n d : ℕ) (st : ℕ → Bool) (r : Reservoir X) (k :
   after-is x = refl
 
   abbrev pub size : ℕ
-  size = tally (λ q. st q && a q) b
+  size = countBelow (λ q. st q && a q) b
 
   in-term : bit (agree b (with st p) (r .slots ++ new ∷ []) a) ≡ bit (a p) * before
   in-term = ap bit (entered b st (r .slots) (k .slots) p within off new a refl) ∙ bit-and (a p) (agree b st (r .slots) a)
@@ -65,11 +69,11 @@ module _ {X : Type 0} (b m n d : ℕ) (st : ℕ → Bool) (r : Reservoir X) (k :
 
   -- ---- a deletion is compensated
 
-  paired-term : (x : ℕ) (e : Effect) → Way m n (r .c1) (r .c2) x e → 0 < r .c1 + r .c2 →
+  paired-term : (x : ℕ) {w : ℕ} (e : Effect) → Way m n (r .c1) (r .c2) x w e → 0 < r .c1 + r .c2 →
       bit (agree b (with st p) (placed e (r .slots) new) a) ≡ bit (turn (a p) (ltb x (r .c1))) * before
-  paired-term x Enters (paired-in f g) some =
+  paired-term x Enters (pairs-in f g) some =
       in-term ∙ ap (λ t. bit t * before) (sym (ap (turn (a p)) (lt-ltb x (r .c1) g) ∙ turn-true (a p)))
-  paired-term x StaysOut (paired-out f g) some =
+  paired-term x StaysOut (pairs-out f g) some =
       out-term ∙ ap (λ t. bit t * before) (sym (ap (turn (a p)) (le-ltb x (r .c1) g) ∙ turn-false (a p)))
   paired-term x Enters (fills f g) some = absurd (omega arith)
   paired-term x (Replaces i) (replaces f g h) some = absurd (omega arith)
@@ -98,10 +102,10 @@ module _ {X : Type 0} (b m n d : ℕ) (st : ℕ → Bool) (r : Reservoir X) (k :
 
   -- ---- the sample fills
 
-  filling-term : (x : ℕ) (e : Effect) → Way m n (r .c1) (r .c2) x e → r .c1 + r .c2 ≡ 0 → n < m →
+  filling-term : (x : ℕ) {w : ℕ} (e : Effect) → Way m n (r .c1) (r .c2) x w e → r .c1 + r .c2 ≡ 0 → n < m →
       bit (agree b (with st p) (placed e (r .slots) new) a) ≡ bit (a p) * before
-  filling-term x Enters (paired-in f g) none l = absurd (omega arith)
-  filling-term x StaysOut (paired-out f g) none l = absurd (omega arith)
+  filling-term x Enters (pairs-in f g) none l = absurd (omega arith)
+  filling-term x StaysOut (pairs-out f g) none l = absurd (omega arith)
   filling-term x Enters (fills f g) none l = in-term
   filling-term x (Replaces i) (replaces f g h) none l = absurd (omega arith)
   filling-term x StaysOut (passes f g h) none l = absurd (omega arith)
@@ -117,10 +121,10 @@ module _ {X : Type 0} (b m n d : ℕ) (st : ℕ → Bool) (r : Reservoir X) (k :
   full : d ≡ 0 → m ≤ n → length (r .slots) ≡ m
   full none l = omega (arith, k .filled, k .due)
 
-  out-full-term : (x : ℕ) (e : Effect) → Way m n (r .c1) (r .c2) x e → d ≡ 0 → m ≤ n → a p ≡ false →
+  out-full-term : (x : ℕ) {w : ℕ} (e : Effect) → Way m n (r .c1) (r .c2) x w e → d ≡ 0 → m ≤ n → a p ≡ false →
       bit (agree b (with st p) (placed e (r .slots) new) a) ≡ bit (not (ltb x m)) * before
-  out-full-term x Enters (paired-in f g) none l out = absurd (omega (arith, k .due))
-  out-full-term x StaysOut (paired-out f g) none l out = absurd (omega (arith, k .due))
+  out-full-term x Enters (pairs-in f g) none l out = absurd (omega (arith, k .due))
+  out-full-term x StaysOut (pairs-out f g) none l out = absurd (omega (arith, k .due))
   out-full-term x Enters (fills f g) none l out = absurd (omega arith)
   out-full-term x (Replaces i) (replaces f g h) none l out =
       ap bit (replaced-out b st (r .slots) (k .slots) p within off new refl x (omega (arith, full none l)) a out)
@@ -140,24 +144,24 @@ module _ {X : Type 0} (b m n d : ℕ) (st : ℕ → Bool) (r : Reservoir X) (k :
   abbrev pub room : ℕ → ℕ
   room y = bit (not (a y) && agree b st (r .slots) (with a y))
 
-  in-full-term : (x : ℕ) (e : Effect) → Way m n (r .c1) (r .c2) x e → d ≡ 0 → m ≤ n → a p ≡ true → x < m →
+  in-full-term : (x : ℕ) {w : ℕ} (e : Effect) → Way m n (r .c1) (r .c2) x w e → d ≡ 0 → m ≤ n → a p ≡ true → x < m →
       bit (agree b (with st p) (placed e (r .slots) new) a) ≡ room (getD (r .slots) x new .number)
-  in-full-term x Enters (paired-in f g) none l has lx = absurd (omega (arith, k .due))
-  in-full-term x StaysOut (paired-out f g) none l has lx = absurd (omega (arith, k .due))
+  in-full-term x Enters (pairs-in f g) none l has lx = absurd (omega (arith, k .due))
+  in-full-term x StaysOut (pairs-out f g) none l has lx = absurd (omega (arith, k .due))
   in-full-term x Enters (fills f g) none l has lx = absurd (omega arith)
   in-full-term x (Replaces i) (replaces f g h) none l has lx =
       ap bit (replaced-in b st (r .slots) (k .slots) p within off new refl x (omega (arith, full none l)) (k .stocked .low) a has)
   in-full-term x StaysOut (passes f g h) none l has lx = absurd (omega arith)
 
-  in-full-past : (x : ℕ) (e : Effect) → Way m n (r .c1) (r .c2) x e → d ≡ 0 → m ≤ n → a p ≡ true → m ≤ x →
+  in-full-past : (x : ℕ) {w : ℕ} (e : Effect) → Way m n (r .c1) (r .c2) x w e → d ≡ 0 → m ≤ n → a p ≡ true → m ≤ x →
       bit (agree b (with st p) (placed e (r .slots) new) a) ≡ 0
-  in-full-past x Enters (paired-in f g) none l has lx = absurd (omega (arith, k .due))
-  in-full-past x StaysOut (paired-out f g) none l has lx = absurd (omega (arith, k .due))
+  in-full-past x Enters (pairs-in f g) none l has lx = absurd (omega (arith, k .due))
+  in-full-past x StaysOut (pairs-out f g) none l has lx = absurd (omega (arith, k .due))
   in-full-past x Enters (fills f g) none l has lx = absurd (omega arith)
   in-full-past x (Replaces i) (replaces f g h) none l has lx = absurd (omega arith)
   in-full-past x StaysOut (passes f g h) none l has lx = out-term ∙ ap (λ t. bit (not t) * before) has ∙ zero-mul before
 
-  room-term : (y : ℕ) → y < b → (t : Bool) → st y ≡ t → (o : ℕ) → occ y (r .slots) ≡ o → o * room y ≡ bit (t && not (a y)) * bit (agree b st (r .slots) (with a y))
+  room-term : (y : ℕ) → y < b → (t : Bool) → st y ≡ t → (o : ℕ) → occurs y (r .slots) ≡ o → o * room y ≡ bit (t && not (a y)) * bit (agree b st (r .slots) (with a y))
   room-term y l false e o f = ap (λ j. j * room y) {y = 0} (omega (arith, k .slots y, ap bit e)) ∙ zero-mul (room y) ∙ sym (zero-mul (bit (agree b st (r .slots) (with a y))))
   room-term y l true e zero f =
       zero-mul (room y)
@@ -165,7 +169,7 @@ module _ {X : Type 0} (b m n d : ℕ) (st : ℕ → Bool) (r : Reservoir X) (k :
       (every-false (λ q. not (st q) || Bool·beq (holds (r .slots) q) (with a y q)) y b l
       (ap (λ t. not t || Bool·beq (holds (r .slots) y) (with a y y)) e
       ∙ ap (λ h. Bool·beq h (with a y y)) (holds-none (r .slots) y f)
-      ∙ ap (Bool·beq false) (with-here a y)))
+      ∙ ap (Bool·beq false) (with-same a y y refl)))
       ∙ mul-zero (bit (not (a y))))
   room-term y l true e (suc o) f =
       ap (λ j. j * room y) {y = 1} (omega (arith, k .slots y, ap bit e)) ∙ one-mul (room y) ∙ bit-and (not (a y)) (agree b st (r .slots) (with a y))
@@ -178,9 +182,6 @@ module _ {X : Type 0} (b m n d : ℕ) (st : ℕ → Bool) (r : Reservoir X) (k :
       (λ x lx. after-is x ∙ in-full-term x (effect r x) (way-kept b m n d st r k p x) none l has lx)
       ∙ ap (total (λ x. room (getD (r .slots) x new .number))) (sym (full none l))
       ∙ by-places room (r .slots) new
-      ∙ sym (by-packs room b (r .slots) (λ q some. low q some (st q) refl))
-      ∙ total-like (λ y. occ y (r .slots) * room y) (λ y. lacks st a y * bit (agree b st (r .slots) (with a y))) b
-      (λ y ly. room-term y ly (st y) refl (occ y (r .slots)) refl) where
-        low : (q : ℕ) → 0 < occ q (r .slots) → (t : Bool) → st q ≡ t → q < b
-        low q some true e = k .stocked .low q e
-        low q some false e = absurd (omega (arith, k .slots q, ap bit e))
+      ∙ sym (by-packs room b (r .slots) (λ q some. k .stocked .low q (tidy-stocked (r .slots) st (k .slots) q some)))
+      ∙ total-like (λ y. occurs y (r .slots) * room y) (λ y. lacks st a y * bit (agree b st (r .slots) (with a y))) b
+      (λ y ly. room-term y ly (st y) refl (occurs y (r .slots)) refl)

@@ -3,63 +3,24 @@ use mathlib.Core.Bool.{Bool, true, false, not, _&&_}
 use mathlib.Core.Logic.{inl, inr}
 use mathlib.Core.Path.{_≡_, refl, ap, sym, _∙_}
 use Prim.Native.Nat.{ℕ, zero, suc, _+_, _-_, _*_, _≤_, _<_, min}
-use native.Mathlib.Nat.{zero-mul, one-mul, add-mul}
+use native.Mathlib.Nat.{zero-mul, add-mul}
 use native.Mathlib.Omega.{arith}
-use lib.Dec.{eqb, ltb}
-use Rattle.std.proofs.shelf.Tests.{eq-eqb, ne-eqb, cases-eq, cases-lt, lt-ltb, le-ltb, and-parts, and-left, and-right}
-use Rattle.fairness.specs.Histories.{bit}
-use Rattle.fairness.specs.Laws.{every, tally}
-
-unfoldable pub total : (ℕ → ℕ) → ℕ → ℕ
-total f zero = 0
-total f (suc n) = f n + total f n
-
--- equal terms have an equal sum
-pub total-like : (f g : ℕ → ℕ) (n : ℕ) → ((v : ℕ) → v < n → f v ≡ g v) → total f n ≡ total g n
-unfolding total
-total-like f g zero same = refl
-total-like f g (suc n) same = omega (arith, same n (omega arith), total-like f g n (λ v below. same v (omega arith)))
-
-pub total-none : (n : ℕ) → total (λ v. 0) n ≡ 0
-unfolding total
-total-none zero = refl
-total-none (suc n) = omega (arith, total-none n)
-
-pub total-add : (f g : ℕ → ℕ) (n : ℕ) → total (λ v. f v + g v) n ≡ total f n + total g n
-unfolding total
-total-add f g zero = refl
-total-add f g (suc n) = omega (arith, total-add f g n)
+use lib.Dec.{ltb}
+use Rattle.std.proofs.shelf.Tests.{cases-eq, cases-lt, lt-ltb, le-ltb, and-parts, and-left, and-right}
+use Rattle.pairing.specs.Rules.{bit}
+use Rattle.pairing.proofs.Sums.{total}
+use Rattle.fairness.specs.Laws.{every}
 
 pub total-times : (f : ℕ → ℕ) (k n : ℕ) → total (λ v. f v * k) n ≡ total f n * k
 unfolding total
 total-times f k zero = sym (zero-mul k)
 total-times f k (suc n) = omega (arith, total-times f k n, add-mul (f n) (total f n) k)
 
--- terms that differ at one place
-pub total-at : (f g : ℕ → ℕ) (p n : ℕ) → p < n → ((q : ℕ) → (q ≡ p → ⊥) → f q ≡ g q) → total f n + g p ≡ total g n + f p
-unfolding total
-total-at f g p zero within same = omega arith
-total-at f g p (suc n) within same =
-    elim (cases-eq n p) [
-      | inl e ↦
-          let here : f n ≡ f p = ap f e in
-          let there : g n ≡ g p = ap g e in
-          omega (arith, total-like f g n (λ v below. same v (λ e′. omega arith)))
-      | inr ne ↦ omega (arith, same n ne, total-at f g p n (omega arith) same)
-    ]
-
 -- the first term first
 pub total-front : (f : ℕ → ℕ) (n : ℕ) → total f (suc n) ≡ f 0 + total (λ v. f (suc v)) n
 unfolding total
 total-front f zero = refl
 total-front f (suc n) = omega (arith, total-front f n)
-
--- only the term at z counts
-pub total-mark : (f : ℕ → ℕ) (z n : ℕ) → z < n → total (λ y. bit (eqb z y) * f y) n ≡ f z
-total-mark f z n within =
-    let off : (q : ℕ) → (q ≡ z → ⊥) → bit (eqb z q) * f q ≡ 0 = λ q ne. ap (λ b. bit b * f q) (ne-eqb z q (λ e. ne (sym e))) ∙ zero-mul (f q) in
-    let at : bit (eqb z z) * f z ≡ f z = ap (λ b. bit b * f z) (eq-eqb z z refl) ∙ one-mul (f z) in
-    omega (arith, total-at (λ y. bit (eqb z y) * f y) (λ y. 0) z n within off, total-none n)
 
 -- terms from m on that are 0
 pub total-tail : (f : ℕ → ℕ) (m n : ℕ) → m ≤ n → ((x : ℕ) → x < n → m ≤ x → f x ≡ 0) → total f n ≡ total f m
@@ -89,11 +50,6 @@ total-above c (suc n) =
       | inl l ↦ omega (arith, ap (λ b. bit (not b)) (lt-ltb n c l), total-above c n)
       | inr l ↦ omega (arith, ap (λ b. bit (not b)) (le-ltb n c l), total-above c n)
     ]
-
-pub tally-total : (t : ℕ → Bool) (n : ℕ) → tally t n ≡ total (λ v. bit (t v)) n
-unfolding total tally
-tally-total t zero = refl
-tally-total t (suc n) = ap (λ k. bit (t n) + k) (tally-total t n)
 
 -- ---- tests of all numbers below n
 

@@ -6,6 +6,7 @@ use mathlib.Core.Path.{_≡_}
 use Prim.Native.Nat.{ℕ, zero, suc, _+_, _-_, _<_}
 use lib.Dec.{eqb, ltb}
 use Rattle.pairing.specs.Reservoir.{Reservoir, store, taken, with, without, width, widthOf}
+use Rattle.pairing.specs.Rules.{bit}
 
 -- a pack is stored with its item, or taken
 pub data Call (X : Type 0) : Type 0 where
@@ -60,10 +61,6 @@ each f (x ∷ xs) = f x ++ each f xs
 abbrev pub drawLists : List ℕ → List (List ℕ)
 drawLists [] = [] ∷ []
 drawLists (w ∷ ws) = each (λ d. map (λ ds. d ∷ ds) (drawLists ws)) (below w)
-
--- 1 for true
-abbrev pub bit : Bool → ℕ
-bit b = cond b 1 0
 
 -- how many elements pass a test
 abbrev pub count : {A : Type 0} → (A → Bool) → List A → ℕ

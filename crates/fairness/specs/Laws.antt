@@ -7,7 +7,8 @@ use Prim.Native.Nat.{ℕ, zero, suc, _+_, _-_, _*_, _≤_, min}
 use lib.Dec.{eqb, ltb}
 use lib.ListN.{length}
 use Rattle.pairing.specs.Reservoir.{Slot, Reservoir, empty, with, width, widthOf}
-use Rattle.fairness.specs.Histories.{Call, Store, Take, Possible, stockAfter, sizeAfter, dueAfter, widths, drawLists, bit, count, same, run, admits}
+use Rattle.pairing.specs.Rules.{bit, countBelow}
+use Rattle.fairness.specs.Histories.{Call, Store, Take, Possible, stockAfter, sizeAfter, dueAfter, widths, drawLists, count, same, run, admits}
 
 -- ---- found: the group is the sample
 
@@ -20,11 +21,6 @@ holds (x ∷ xs) q = eqb (x .number) q || holds xs q
 unfoldable pub every : (ℕ → Bool) → ℕ → Bool
 every test zero = true
 every test (suc n) = test n && every test n
-
--- how many numbers below n pass a test
-unfoldable pub tally : (ℕ → Bool) → ℕ → ℕ
-tally test zero = 0
-tally test (suc n) = bit (test n) + tally test n
 
 -- whether each pack in stock is in a slot exactly when the group has it
 abbrev pub found : {X : Type 0} → (ℕ → Bool) → Reservoir X → Bool
@@ -71,7 +67,7 @@ weightAt m h s = weight (min m (sizeAfter 0 h + dueAfter 0 h)) (dueAfter 0 h) s
 
 -- the group's weight at the end, by how many packs in stock it has
 abbrev pub weightOf : {X : Type 0} → ℕ → List (Call X) → (ℕ → Bool) → ℕ
-weightOf m h group = weightAt m h (tally (λ q. stockAfter none h q && group q) 32768)
+weightOf m h group = weightAt m h (countBelow (λ q. stockAfter none h q && group q) 32768)
 
 -- ---- the laws
 
@@ -99,7 +95,7 @@ pub record Settled {X : Type 0} (m : ℕ) (h : List (Call X)) (r : Reservoir X) 
   pub due : r .c1 + r .c2 ≡ dueAfter 0 h
   pub width : width r ≡ widthOf m (sizeAfter 0 h) (dueAfter 0 h) 0
   -- N counts the stock
-  pub counted : r .size ≡ tally (r .stock) 32768
+  pub counted : r .size ≡ countBelow (r .stock) 32768
   -- T is k + c1
   pub filled : length (r .slots) + r .c1 ≡ min m (sizeAfter 0 h + dueAfter 0 h)
 

@@ -11,16 +11,16 @@ use Rattle.std.specs.Options.{mapped, valueOr}
 use Rattle.std.specs.declared.option.Option.the-variants.{Some}
 use Rattle.std.proofs.shelf.Tests.{eq-eqb, cond-true, cond-false}
 use Rattle.pairing.specs.Reservoir.{Slot, slotOf}
-use Rattle.pairing.specs.Rules.{one, occurs, Slots-distinct}
+use Rattle.pairing.specs.Rules.{bit, occurs, Slots-distinct}
 
-occurs-at : {X : Type 0} (p : ℕ) (xs : List (Slot X)) (h : ℕ) (d : Slot X) → h < length xs → getD xs h d .number ≡ p → 1 ≤ occurs p xs
+pub occurs-at : {X : Type 0} (p : ℕ) (xs : List (Slot X)) (h : ℕ) (d : Slot X) → h < length xs → getD xs h d .number ≡ p → 1 ≤ occurs p xs
 occurs-at p [] h d low is = absurd (omega arith)
-occurs-at p (x ∷ xs) zero d low is = let a : one (eqb (x .number) p) ≡ 1 = ap one (eq-eqb (x .number) p is) in omega (arith, a)
+occurs-at p (x ∷ xs) zero d low is = let a : bit (eqb (x .number) p) ≡ 1 = ap bit (eq-eqb (x .number) p is) in omega (arith, a)
 occurs-at p (x ∷ xs) (suc h) d low is = let a = occurs-at p xs h d (omega arith) is in omega (arith, a)
 
 -- the first slot does not have a number that stands in a later one
 not-first : {X : Type 0} (p : ℕ) (x : Slot X) (xs : List (Slot X)) (b : Bool) → eqb (x .number) p ≡ b → 1 ≤ occurs p xs → occurs p (x ∷ xs) ≤ 1 → b ≡ false
-not-first p x xs true e later most = absurd (let a : one (eqb (x .number) p) ≡ 1 = ap one e in omega (arith, a, later, most))
+not-first p x xs true e later most = absurd (let a : bit (eqb (x .number) p) ≡ 1 = ap bit e in omega (arith, a, later, most))
 not-first p x xs false e later most = refl
 
 found-at : {X : Type 0} (p : ℕ) (xs : List (Slot X)) (h : ℕ) (d : Slot X) → h < length xs → getD xs h d .number ≡ p → occurs p xs ≤ 1 →

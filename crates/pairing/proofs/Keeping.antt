@@ -1,7 +1,7 @@
 -- The ways of a store, and that each call keeps the ranges. Assumes nothing.
 use mathlib.Core.Path.{_≡_, refl}
 use mathlib.Core.Bool.{Bool, true, false, cond}
-use Prim.Native.Nat.{ℕ, _+_, _≤_, _<_}
+use Prim.Native.Nat.{ℕ, _+_, _-_, min, _≤_, _<_}
 use native.Mathlib.Omega.{arith}
 use lib.Dec.{ltb}
 use Rattle.std.proofs.shelf.Tests.{ltb-true, ltb-false}
@@ -38,34 +38,37 @@ way-by m n c1 c2 d false q false false ep eq es et =
 pub way : (m n c1 c2 d : ℕ) → Way m n c1 c2 d (widthOf m n c1 c2) (effectOf m n c1 c2 d)
 way m n c1 c2 d = way-by m n c1 c2 d _ _ _ _ refl refl refl refl
 
--- the numbers after a store with a given effect
-abbrev stored : Counts → Effect → ℕ → Counts
-stored n e used = record {
-  capacity = n .capacity;
-  size = n .size + 1;
-  sampled = sampledAfter (n .sampled) e;
-  c1 = c1After (n .c1) e;
-  c2 = c2After (n .c2) e;
-  calls = n .calls + 1;
-  words = n .words + used;
-}
+-- a store compensates a deletion, if there is one, and keeps the balance, whatever the capacity
+pub store-due : (m n c1 c2 d : ℕ) {w : ℕ} {e : Effect} → Way m n c1 c2 d w e → d < w → c1After c1 e + c2After c2 e ≡ c1 + c2 - 1
+store-due m n c1 c2 d (pairs-in some low) below = omega arith
+store-due m n c1 c2 d (pairs-out some high) below = omega arith
+store-due m n c1 c2 d (fills none free) below = omega arith
+store-due m n c1 c2 d (replaces none full low) below = omega arith
+store-due m n c1 c2 d (passes none full high) below = omega arith
 
-store-by : (n : Counts) (d used : ℕ) {w : ℕ} {e : Effect} → Way (n .capacity) (n .size) (n .c1) (n .c2) d w e →
-    Ranges n → w ≤ 32768 → d < w → used ≤ 64 → Ranges (stored n e used)
-store-by n d used (pairs-in some low) r fits below few =
-    record { limits = r .limits; sample = (omega arith, omega arith); room = omega arith; balance = omega arith; usage = omega arith }
-store-by n d used (pairs-out some high) r fits below few =
-    record { limits = r .limits; sample = (omega arith, omega arith); room = omega arith; balance = omega arith; usage = omega arith }
-store-by n d used (fills none free) r fits below few =
-    record { limits = r .limits; sample = (omega arith, omega arith); room = omega arith; balance = omega arith; usage = omega arith }
-store-by n d used (replaces none full low) r fits below few =
-    record { limits = r .limits; sample = (omega arith, omega arith); room = omega arith; balance = omega arith; usage = omega arith }
-store-by n d used (passes none full high) r fits below few =
-    record { limits = r .limits; sample = (omega arith, omega arith); room = omega arith; balance = omega arith; usage = omega arith }
+pub store-balance : (m n k c1 c2 d : ℕ) {w : ℕ} {e : Effect} → Way m n c1 c2 d w e → d < w → k + c1 ≡ min m (n + (c1 + c2)) →
+    sampledAfter k e + c1After c1 e ≡ min m (n + 1 + (c1After c1 e + c2After c2 e))
+store-balance m n k c1 c2 d (pairs-in some low) below kept = omega arith
+store-balance m n k c1 c2 d (pairs-out some high) below kept = omega arith
+store-balance m n k c1 c2 d (fills none free) below kept = omega arith
+store-balance m n k c1 c2 d (replaces none full low) below kept = omega arith
+store-balance m n k c1 c2 d (passes none full high) below kept = omega arith
+
+store-room : (n : Counts) (d : ℕ) {w : ℕ} {e : Effect} → Way (n .capacity) (n .size) (n .c1) (n .c2) d w e → Ranges n → w ≤ 32768 → d < w →
+    (sampledAfter (n .sampled) e ≤ n .size + 1) × (n .size + 1 + (c1After (n .c1) e + c2After (n .c2) e) ≤ 32768)
+store-room n d (pairs-in some low) r fits below = (omega arith, omega arith)
+store-room n d (pairs-out some high) r fits below = (omega arith, omega arith)
+store-room n d (fills none free) r fits below = (omega arith, omega arith)
+store-room n d (replaces none full low) r fits below = (omega arith, omega arith)
+store-room n d (passes none full high) r fits below = (omega arith, omega arith)
 
 pub store-keeps : (n : Counts) (drawn : Drawn) → Ranges n → widthAt n ≤ 32768 → drawn .value < widthAt n → drawn .used ≤ 64 →
     Ranges (afterStore n drawn)
-store-keeps n drawn r fits below few = store-by n (drawn .value) (drawn .used) (way _ _ _ _ (drawn .value)) r fits below few
+store-keeps n drawn r fits below few =
+    let w = way (n .capacity) (n .size) (n .c1) (n .c2) (drawn .value) in
+    let room = store-room n (drawn .value) w r fits below in
+    let kept = store-balance (n .capacity) (n .size) (n .sampled) (n .c1) (n .c2) (drawn .value) w below (r .balance) in
+    record { limits = r .limits; sample = (omega (arith, kept), room .0); room = room .1; balance = kept; usage = omega arith }
 
 -- a width fits while the stock has a number left
 fits-by : (n : Counts) (d : ℕ) {w : ℕ} {e : Effect} → Way (n .capacity) (n .size) (n .c1) (n .c2) d w e → Ranges n → n .size < 32768 → w ≤ 32768

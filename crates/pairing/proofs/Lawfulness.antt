@@ -15,27 +15,27 @@ use Rattle.pairing.specs.declared.Effect.{Effect}
 use Rattle.pairing.specs.Ranges.{Ranges}
 use Rattle.pairing.specs.Reservoir.{Slot, Reservoir, empty, store, taken, width, effect, placed, slotOf, slotsAfter, with, without}
 use Rattle.pairing.specs.Steps.{countsOf, CanCall}
-use Rattle.pairing.specs.Rules.{one, occurs, countBelow, Lawful, Reachable, starts, stores, takes, afterTake, CanTake, Calls-possible}
+use Rattle.pairing.specs.Rules.{bit, occurs, countBelow, Lawful, Reachable, starts, stores, takes, afterTake, CanTake, Calls-possible}
 use Rattle.pairing.proofs.Following.{store-follows, take-follows}
 use Rattle.pairing.proofs.Keeping.{store-keeps, width-fits, take-in-keeps, take-out-keeps, empty-keeps}
-use Rattle.pairing.proofs.Slots.{Found, there, nowhere, found, occurs-placed, occurs-taken, occurs-fewer}
-use Rattle.pairing.proofs.Stock.{one-bound, count-none, count-bound, with-same, with-other, count-with, without-other, count-without, slots-less}
+use Rattle.pairing.proofs.Slots.{Found, there, nowhere, search-found, occurs-placed, occurs-taken, occurs-other}
+use Rattle.pairing.proofs.Stock.{bit-most, count-none, count-bound, with-same, with-other, count-with, without-other, count-without, slots-less}
 
 -- each number is in as many slots at most as it is in stock
-abbrev Tidy : {X : Type 0} → List (Slot X) → (ℕ → Bool) → Type 0
-Tidy xs s = (p : ℕ) → occurs p xs ≤ one (s p)
+abbrev pub Tidy : {X : Type 0} → List (Slot X) → (ℕ → Bool) → Type 0
+Tidy xs s = (p : ℕ) → occurs p xs ≤ bit (s p)
 
-one-true : (b : Bool) → 1 ≤ one b → b ≡ true
-one-true true h = refl
-one-true false h = absurd (omega arith)
+bit-true : (b : Bool) → 1 ≤ bit b → b ≡ true
+bit-true true h = refl
+bit-true false h = absurd (omega arith)
 
-tidy-distinct : {X : Type 0} (xs : List (Slot X)) (s : ℕ → Bool) → Tidy xs s → (p : ℕ) → occurs p xs ≤ 1
-tidy-distinct xs s tidy p = let a = tidy p in let b = one-bound (s p) in omega (arith, a, b)
+pub tidy-distinct : {X : Type 0} (xs : List (Slot X)) (s : ℕ → Bool) → Tidy xs s → (p : ℕ) → occurs p xs ≤ 1
+tidy-distinct xs s tidy p = let a = tidy p in let b = bit-most (s p) in omega (arith, a, b)
 
-tidy-stocked : {X : Type 0} (xs : List (Slot X)) (s : ℕ → Bool) → Tidy xs s → (p : ℕ) → 1 ≤ occurs p xs → s p ≡ true
-tidy-stocked xs s tidy p h = one-true (s p) (let a = tidy p in omega (arith, a))
+pub tidy-stocked : {X : Type 0} (xs : List (Slot X)) (s : ℕ → Bool) → Tidy xs s → (p : ℕ) → 1 ≤ occurs p xs → s p ≡ true
+tidy-stocked xs s tidy p h = bit-true (s p) (let a = tidy p in omega (arith, a))
 
-tidy-by : {X : Type 0} (r : Reservoir X) → Lawful r → (p : ℕ) (b : Bool) → r .stock p ≡ b → occurs p (r .slots) ≤ one b
+tidy-by : {X : Type 0} (r : Reservoir X) → Lawful r → (p : ℕ) (b : Bool) → r .stock p ≡ b → occurs p (r .slots) ≤ bit b
 tidy-by r l p true e = l .distinct p
 tidy-by r l p false e =
     ⊎-elim
@@ -55,20 +55,20 @@ in-stock-below r l p h =
 
 -- ---- a store
 
-store-tidy : {X : Type 0} (xs : List (Slot X)) (s : ℕ → Bool) (e : Effect) (x : Slot X) → Tidy xs s → s (x .number) ≡ false →
+pub store-tidy : {X : Type 0} (xs : List (Slot X)) (s : ℕ → Bool) (e : Effect) (x : Slot X) → Tidy xs s → s (x .number) ≡ false →
     Tidy (placed e xs x) (with s (x .number))
 store-tidy xs s e x t out p =
     let most = occurs-placed p e xs x in
     let before = t p in
     ⊎-elim
     (λ (is : p ≡ x .number).
-    let a : one (s p) ≡ 0 = ap (λ k. one (s k)) is ∙ ap one out in
-    let b : one (with s (x .number) p) ≡ 1 = ap one (with-same s (x .number) p is) in
-    let c = one-bound (eqb (x .number) p) in
+    let a : bit (s p) ≡ 0 = ap (λ k. bit (s k)) is ∙ ap bit out in
+    let b : bit (with s (x .number) p) ≡ 1 = ap bit (with-same s (x .number) p is) in
+    let c = bit-most (eqb (x .number) p) in
     omega (arith, most, before, a, b, c))
     (λ (not-it : p ≢ x .number).
-    let a : one (with s (x .number) p) ≡ one (s p) = ap one (with-other s (x .number) p not-it) in
-    let b : one (eqb (x .number) p) ≡ 0 = ap one (ne-eqb (x .number) p (λ is. not-it (sym is))) in
+    let a : bit (with s (x .number) p) ≡ bit (s p) = ap bit (with-other s (x .number) p not-it) in
+    let b : bit (eqb (x .number) p) ≡ 0 = ap bit (ne-eqb (x .number) p (λ is. not-it (sym is))) in
     omega (arith, most, before, a, b))
     (cases-eq p (x .number))
 
@@ -102,7 +102,7 @@ store-lawful r l number item draw used low out below few =
 
 -- ---- a take
 
-take-tidy : {X : Type 0} (xs : List (Slot X)) (s : ℕ → Bool) (q : ℕ) {o : Option ℕ} → Found xs q o → Tidy xs s →
+pub take-tidy : {X : Type 0} (xs : List (Slot X)) (s : ℕ → Bool) (q : ℕ) {o : Option ℕ} → Found xs q o → Tidy xs s →
     Tidy (slotsAfter xs o) (without s q)
 take-tidy xs s q {o} f t p =
     ⊎-elim
@@ -111,8 +111,8 @@ take-tidy xs s q {o} f t p =
     let a : occurs p (slotsAfter xs o) ≡ 0 = ap (λ k. occurs k (slotsAfter xs o)) is ∙ none in
     omega (arith, a))
     (λ (not-it : p ≢ q).
-    let a : one (without s q p) ≡ one (s p) = ap one (without-other s q p not-it) in
-    let b = occurs-fewer p q xs f in
+    let a : bit (without s q p) ≡ bit (s p) = ap bit (without-other s q p not-it) in
+    let b = occurs-other p q xs f not-it in
     let c = t p in
     omega (arith, a, b, c))
     (cases-eq p q)
@@ -137,7 +137,7 @@ take-ranges r l q inside (nowhere none) = take-out-keeps (countsOf r) (l .ranges
 pub take-lawful : {X : Type 0} (r : Reservoir X) → Lawful r → (number : ℕ) → r .stock number ≡ true → Lawful (taken r number)
 unfolding taken
 take-lawful r l number inside =
-    let f = found (r .slots) number in
+    let f = search-found (r .slots) number in
     let t : Tidy (slotsAfter (r .slots) (slotOf (r .slots) number)) (without (r .stock) number) = take-tidy (r .slots) (r .stock) number f (tidy r l) in
     record {
       ranges = subst Ranges (sym (take-follows r number)) (take-ranges r l number inside f);
@@ -164,5 +164,5 @@ lawful r (takes s h number inside) = take-lawful s (lawful s h) number inside
 pub possible : (X : Type 0) → Calls-possible X
 possible X = record {
   store-possible = λ r l number drawn can low out below few. (can, store-fits r l number low out, below, few);
-  take-possible = λ r l number can inside. take-fits r l number inside (found (r .slots) number) can;
+  take-possible = λ r l number can inside. take-fits r l number inside (search-found (r .slots) number) can;
 }

@@ -6,3 +6,4 @@ pub mod Lawfulness
 pub mod Moved
 pub mod Slots
 pub mod Stock
+pub mod Sums

@@ -13,12 +13,12 @@ use lib.Seq.{getD-set-same, getD-set-other, set-out, length-take-le}
 use Rattle.std.specs.Options.{mapped}
 use Rattle.std.specs.declared.option.Option.{Option}
 use Rattle.std.specs.declared.option.Option.the-variants.{Some, None}
-use Rattle.std.proofs.shelf.Tests.{eqb-true, eq-eqb, cases-eq, cases-lt}
+use Rattle.std.proofs.shelf.Tests.{eqb-true, eq-eqb, ne-eqb, cases-eq, cases-lt}
 use Rattle.pairing.specs.declared.Effect.{Effect}
 use Rattle.pairing.specs.declared.Effect.the-variants.{Enters, Replaces, StaysOut}
 use Rattle.pairing.specs.Reservoir.{Slot, placed, slotOf, slotsAfter, freed}
 use Rattle.pairing.specs.Steps.{sampledAfter}
-use Rattle.pairing.specs.Rules.{one, occurs}
+use Rattle.pairing.specs.Rules.{bit, occurs}
 
 -- ---- how many slots there are
 
@@ -37,18 +37,18 @@ length-freed (x ∷ xs) i =
 
 -- ---- in how many slots a number stands
 
-pub occurs-push : {X : Type 0} (p : ℕ) (xs : List (Slot X)) (x : Slot X) → occurs p (xs ++ x ∷ []) ≡ occurs p xs + one (eqb (x .number) p)
+pub occurs-push : {X : Type 0} (p : ℕ) (xs : List (Slot X)) (x : Slot X) → occurs p (xs ++ x ∷ []) ≡ occurs p xs + bit (eqb (x .number) p)
 occurs-push p [] x = omega arith
 occurs-push p (y ∷ ys) x = let h = occurs-push p ys x in omega (arith, h)
 
 pub occurs-set : {X : Type 0} (p : ℕ) (xs : List (Slot X)) (i : ℕ) (x d : Slot X) → i < length xs →
-    occurs p (set xs i x) + one (eqb (getD xs i d .number) p) ≡ occurs p xs + one (eqb (x .number) p)
+    occurs p (set xs i x) + bit (eqb (getD xs i d .number) p) ≡ occurs p xs + bit (eqb (x .number) p)
 occurs-set p [] i x d h = absurd (omega arith)
 occurs-set p (y ∷ ys) zero x d h = omega arith
 occurs-set p (y ∷ ys) (suc i) x d h = let e = occurs-set p ys i x d (omega arith) in omega (arith, e)
 
 occurs-last : {X : Type 0} (p : ℕ) (xs : List (Slot X)) (n : ℕ) (d : Slot X) → length xs ≡ suc n →
-    occurs p (take n xs) + one (eqb (getD xs n d .number) p) ≡ occurs p xs
+    occurs p (take n xs) + bit (eqb (getD xs n d .number) p) ≡ occurs p xs
 occurs-last p [] n d h = absurd (omega arith)
 occurs-last p (y ∷ []) zero d h = omega arith
 occurs-last p (y ∷ z ∷ zs) zero d h = absurd (omega arith)
@@ -62,17 +62,17 @@ last-is xs i n d h =
     (cases-eq n i)
 
 pub occurs-freed : {X : Type 0} (p q : ℕ) (xs : List (Slot X)) (i : ℕ) → i < length xs → ((d : Slot X) → getD xs i d .number ≡ q) →
-    occurs p (freed xs i) + one (eqb q p) ≡ occurs p xs
+    occurs p (freed xs i) + bit (eqb q p) ≡ occurs p xs
 occurs-freed p q [] i h is = absurd (omega arith)
 occurs-freed p q (x ∷ xs) i h is =
     let l = getD (x ∷ xs) (length xs) x in
     let zs = set (x ∷ xs) i l in
-    let a : occurs p zs + one (eqb (getD (x ∷ xs) i x .number) p) ≡ occurs p (x ∷ xs) + one (eqb (l .number) p) = occurs-set p (x ∷ xs) i l x h in
-    let b : occurs p (take (length xs) zs) + one (eqb (getD zs (length xs) x .number) p) ≡ occurs p zs =
+    let a : occurs p zs + bit (eqb (getD (x ∷ xs) i x .number) p) ≡ occurs p (x ∷ xs) + bit (eqb (l .number) p) = occurs-set p (x ∷ xs) i l x h in
+    let b : occurs p (take (length xs) zs) + bit (eqb (getD zs (length xs) x .number) p) ≡ occurs p zs =
     occurs-last p zs (length xs) x (length-set (x ∷ xs) i l) in
-    let c : one (eqb (getD zs (length xs) x .number) p) ≡ one (eqb (l .number) p) =
-    ap (λ (s : Slot _). one (eqb (s .number) p)) (last-is (x ∷ xs) i (length xs) x (omega arith)) in
-    let e : one (eqb (getD (x ∷ xs) i x .number) p) ≡ one (eqb q p) = ap (λ n. one (eqb n p)) (is x) in
+    let c : bit (eqb (getD zs (length xs) x .number) p) ≡ bit (eqb (l .number) p) =
+    ap (λ (s : Slot _). bit (eqb (s .number) p)) (last-is (x ∷ xs) i (length xs) x (omega arith)) in
+    let e : bit (eqb (getD (x ∷ xs) i x .number) p) ≡ bit (eqb q p) = ap (λ n. bit (eqb n p)) (is x) in
     omega (arith, a, b, c, e)
 
 -- ---- what the search for a number finds
@@ -86,16 +86,16 @@ found-by : {X : Type 0} (x : Slot X) (xs : List (Slot X)) (p : ℕ) (b : Bool) �
 found-by x xs p true e f = there 0 (omega arith) (λ d. eqb-true _ _ e)
 found-by x xs p false e (there i h is) =
     there (1 + i) (omega arith) (λ d. subst (λ k. getD (x ∷ xs) k d .number ≡ p) (sym (one-add i)) (is d))
-found-by x xs p false e (nowhere h) = nowhere (let z : one (eqb (x .number) p) ≡ 0 = ap one e in omega (arith, z, h))
+found-by x xs p false e (nowhere h) = nowhere (let z : bit (eqb (x .number) p) ≡ 0 = ap bit e in omega (arith, z, h))
 
-pub found : {X : Type 0} (xs : List (Slot X)) (p : ℕ) → Found xs p (slotOf xs p)
-found [] p = nowhere refl
-found (x ∷ xs) p = found-by x xs p (eqb (x .number) p) refl (found xs p)
+pub search-found : {X : Type 0} (xs : List (Slot X)) (p : ℕ) → Found xs p (slotOf xs p)
+search-found [] p = nowhere refl
+search-found (x ∷ xs) p = found-by x xs p (eqb (x .number) p) refl (search-found xs p)
 
 -- ---- after a store and after a take
 
 pub occurs-placed : {X : Type 0} (p : ℕ) (e : Effect) (xs : List (Slot X)) (x : Slot X) →
-    occurs p (placed e xs x) ≤ occurs p xs + one (eqb (x .number) p)
+    occurs p (placed e xs x) ≤ occurs p xs + bit (eqb (x .number) p)
 occurs-placed p Enters xs x = let h = occurs-push p xs x in omega (arith, h)
 occurs-placed p (Replaces i) xs x =
     ⊎-elim
@@ -104,14 +104,17 @@ occurs-placed p (Replaces i) xs x =
     (cases-lt i (length xs))
 occurs-placed p StaysOut xs x = omega arith
 
--- the number that is taken is in no slot, and any other is in as many slots as before or in one less
+-- the number that is taken is in no slot, and any other is in as many slots as before
 pub occurs-taken : {X : Type 0} (q : ℕ) (xs : List (Slot X)) {o : Option ℕ} → Found xs q o → occurs q xs ≤ 1 → occurs q (slotsAfter xs o) ≡ 0
 occurs-taken q xs (there i h is) most =
-    let e : occurs q (freed xs i) + one (eqb q q) ≡ occurs q xs = occurs-freed q q xs i h is in
-    let a : one (eqb q q) ≡ 1 = ap one (eq-eqb q q refl) in
+    let e : occurs q (freed xs i) + bit (eqb q q) ≡ occurs q xs = occurs-freed q q xs i h is in
+    let a : bit (eqb q q) ≡ 1 = ap bit (eq-eqb q q refl) in
     omega (arith, e, a)
 occurs-taken q xs (nowhere none) most = none
 
-pub occurs-fewer : {X : Type 0} (p q : ℕ) (xs : List (Slot X)) {o : Option ℕ} → Found xs q o → occurs p (slotsAfter xs o) ≤ occurs p xs
-occurs-fewer p q xs (there i h is) = let e : occurs p (freed xs i) + one (eqb q p) ≡ occurs p xs = occurs-freed p q xs i h is in omega (arith, e)
-occurs-fewer p q xs (nowhere none) = omega arith
+pub occurs-other : {X : Type 0} (p q : ℕ) (xs : List (Slot X)) {o : Option ℕ} → Found xs q o → p ≢ q → occurs p (slotsAfter xs o) ≡ occurs p xs
+occurs-other p q xs (there i h is) not-it =
+    let e : occurs p (freed xs i) + bit (eqb q p) ≡ occurs p xs = occurs-freed p q xs i h is in
+    let a : bit (eqb q p) ≡ 0 = ap bit (ne-eqb q p (λ same. not-it (sym same))) in
+    omega (arith, e, a)
+occurs-other p q xs (nowhere none) not-it = refl

@@ -14,18 +14,19 @@ use Rattle.pairing.specs.Ranges.{Ranges}
 use Rattle.pairing.specs.Reservoir.{Slot, Reservoir, empty, store, taken, width, effect, filledBy, slotOf}
 use Rattle.pairing.specs.Steps.{countsOf, widthAt, effectAt, filledAt, afterStore, afterTakeIn, afterTakeOut, CanCall, CanStore, CanTakeIn, CanTakeOut}
 
-abbrev pub one : Bool → ℕ
-one b = cond b 1 0
+-- 1 for true
+abbrev pub bit : Bool → ℕ
+bit b = cond b 1 0
 
 -- in how many slots a number stands
 abbrev pub occurs : {X : Type 0} → ℕ → List (Slot X) → ℕ
 occurs p [] = 0
-occurs p (x ∷ xs) = one (eqb (x .number) p) + occurs p xs
+occurs p (x ∷ xs) = bit (eqb (x .number) p) + occurs p xs
 
 -- how many numbers below n are in a set
 unfoldable pub countBelow : (ℕ → Bool) → ℕ → ℕ
 countBelow s zero = 0
-countBelow s (suc n) = one (s n) + countBelow s n
+countBelow s (suc n) = bit (s n) + countBelow s n
 
 pub record Lawful {X : Type 0} (r : Reservoir X) : Type 0 where
   -- the ranges, with the number of slots as k
