@@ -12,7 +12,9 @@ use Rattle.pairing.specs.Reservoir.{Reservoir, empty, with, without, width, sto
 use Rattle.pairing.specs.Rules.{bit, occurs, countBelow}
 use Rattle.pairing.proofs.Slots.{search-found, occurs-other}
 use Rattle.pairing.proofs.Stock.{with-same, with-other, without-same, without-other, count-none}
-use Rattle.pairing.proofs.Sums.{total, total-like, total-add, count-total, count-at}
+use Rattle.words.proofs.Evenness.{total-like}
+use Rattle.words.specs.Laws.{total}
+use Rattle.pairing.proofs.Sums.{total-add, count-total, count-at}
 use Rattle.fairness.specs.Histories.{Call, Store, Take, Possible, stockAfter, sizeAfter, dueAfter}
 use Rattle.fairness.specs.Laws.{weight, factor, product, none}
 use Rattle.fairness.proofs.Binomials.{weight-in, weight-out, weight-take, weight-full, weight-other}

@@ -10,7 +10,9 @@ use lib.Dec.{eqb, ltb}
 use Rattle.std.proofs.shelf.Tests.{ne-eqb, cases-lt, ltb-true, lt-ltb, le-ltb, and-parts, false≢true}
 use Rattle.pairing.specs.Reservoir.{Reservoir, empty, with, without, width, widthOf, store, taken}
 use Rattle.pairing.specs.Rules.{bit, countBelow}
-use Rattle.pairing.proofs.Sums.{total, total-like, total-none, total-mark}
+use Rattle.words.proofs.Evenness.{total-like}
+use Rattle.words.specs.Laws.{total}
+use Rattle.pairing.proofs.Sums.{total-none, total-mark}
 use Rattle.fairness.specs.Histories.{Call, Store, Take, Possible, stockAfter, sizeAfter, dueAfter, widths, below, each, drawLists, count, same, run, admits}
 use Rattle.fairness.specs.Laws.{holds, every, found, none, Enumerated, Only-the-sample-is-drawn, Found-is-same-set}
 use Rattle.fairness.proofs.Sums.{every-true, every-at-each}

@@ -15,7 +15,8 @@ use Rattle.pairing.proofs.Apart.{occurs-at}
 use Rattle.pairing.proofs.Lawfulness.{Tidy, tidy-distinct, tidy-stocked}
 use Rattle.pairing.proofs.Slots.{occurs-push, occurs-set}
 use Rattle.pairing.proofs.Stock.{with-same, with-other, without-same, without-other, total-occurs}
-use Rattle.pairing.proofs.Sums.{total-like, count-total}
+use Rattle.words.proofs.Evenness.{total-like}
+use Rattle.pairing.proofs.Sums.{count-total}
 use Rattle.fairness.specs.Laws.{holds, every}
 use Rattle.fairness.proofs.Sums.{every-at, every-false, every-at-each}
 use Rattle.fairness.proofs.Slots.{holds-occurs, holds-like, holds-some, holds-none}

@@ -13,7 +13,7 @@ use Rattle.pairing.specs.Reservoir.{Slot, slotsAfter, oneMoreIf, oneMoreUnless}
 use Rattle.pairing.specs.Rules.{bit, occurs}
 use Rattle.pairing.proofs.Slots.{Found, there, nowhere, length-freed}
 use Rattle.pairing.proofs.Stock.{slotTotal}
-use Rattle.pairing.proofs.Sums.{total}
+use Rattle.words.specs.Laws.{total}
 use Rattle.fairness.specs.Laws.{holds}
 use Rattle.fairness.proofs.Sums.{total-front}
 

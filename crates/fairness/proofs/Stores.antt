@@ -15,7 +15,8 @@ use Rattle.pairing.specs.Rules.{bit, occurs, countBelow}
 use Rattle.pairing.proofs.Keeping.{Way, pairs-in, pairs-out, fills, replaces, passes}
 use Rattle.pairing.proofs.Lawfulness.{tidy-stocked}
 use Rattle.pairing.proofs.Stock.{with-same, by-packs}
-use Rattle.pairing.proofs.Sums.{total, total-like}
+use Rattle.words.proofs.Evenness.{total-like}
+use Rattle.words.specs.Laws.{total}
 use Rattle.fairness.specs.Laws.{holds}
 use Rattle.fairness.proofs.Sums.{total-times, total-tail, total-below, total-above, every-false}
 use Rattle.fairness.proofs.Slots.{holds-none, by-places}

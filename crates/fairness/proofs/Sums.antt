@@ -8,7 +8,7 @@ use native.Mathlib.Omega.{arith}
 use lib.Dec.{ltb}
 use Rattle.std.proofs.shelf.Tests.{cases-eq, cases-lt, lt-ltb, le-ltb, and-parts, and-left, and-right}
 use Rattle.pairing.specs.Rules.{bit}
-use Rattle.pairing.proofs.Sums.{total}
+use Rattle.words.specs.Laws.{total}
 use Rattle.fairness.specs.Laws.{every}
 
 pub total-times : (f : ℕ → ℕ) (k n : ℕ) → total (λ v. f v * k) n ≡ total f n * k

@@ -11,7 +11,9 @@ use lib.ListN.{length}
 use Rattle.std.proofs.shelf.Tests.{eq-eqb, ne-eqb, cases-eq}
 use Rattle.pairing.specs.Reservoir.{Slot, with, without}
 use Rattle.pairing.specs.Rules.{bit, occurs, countBelow}
-use Rattle.pairing.proofs.Sums.{total, total-like, total-none, total-add, total-mark, count-total, count-at}
+use Rattle.words.proofs.Evenness.{total-like}
+use Rattle.words.specs.Laws.{total}
+use Rattle.pairing.proofs.Sums.{total-none, total-add, total-mark, count-total, count-at}
 
 pub bit-most : (b : Bool) → bit b ≤ 1
 bit-most true = omega arith

@@ -7,17 +7,9 @@ use native.Mathlib.Nat.{zero-mul, one-mul}
 use native.Mathlib.Omega.{arith}
 use lib.Dec.{eqb}
 use Rattle.std.proofs.shelf.Tests.{eq-eqb, ne-eqb, cases-eq}
+use Rattle.words.proofs.Evenness.{total-like}
+use Rattle.words.specs.Laws.{total}
 use Rattle.pairing.specs.Rules.{bit, countBelow}
-
-unfoldable pub total : (ℕ → ℕ) → ℕ → ℕ
-total f zero = 0
-total f (suc n) = f n + total f n
-
--- equal terms have an equal sum
-pub total-like : (f g : ℕ → ℕ) (n : ℕ) → ((v : ℕ) → v < n → f v ≡ g v) → total f n ≡ total g n
-unfolding total
-total-like f g zero same = refl
-total-like f g (suc n) same = omega (arith, same n (omega arith), total-like f g n (λ v below. same v (omega arith)))
 
 pub total-none : (n : ℕ) → total (λ v. 0) n ≡ 0
 unfolding total
