@@ -1,4 +1,6 @@
 // Bytes: zeros, little-endian numbers, and bytes written over others.
+#![tactic(auto)]
+
 ghost use Rattle.std.specs.Prelude.{◌≡◌, drop, slice_index};
 ghost use Rattle.std.specs.Str.{bytes_eq};
 ghost use Rattle.bytes.specs.Edits.{placed};

@@ -1,5 +1,7 @@
 // Block devices that can lose power: what a device is, a device in memory, a mirror of two devices,
 // and a device that fails.
+#![tactic(auto)]
+
 ghost use Rattle.std.specs.Prelude.{◌≡◌, min};
 ghost use Rattle.device.specs.Disk.{Disk, Writes, Brings, blocks, reading};
 

@@ -1,4 +1,6 @@
 // Tests of the devices: images, and mirrors over images and over failing devices.
+#![tactic(auto)]
+
 #[cfg(test)]
 mod tests {
     use device::{Device, DeviceError, Entry, Failing, Image, Mirror, Remains};

@@ -1,4 +1,6 @@
 // The counting law of the pairing, over whole histories of stores and takes: no group of packs is favoured.
+#![tactic(auto)]
+
 ghost use Rattle.fairness.specs.Laws.{Counting, Fair, Enumerated, OnlyTheSampleIsDrawn, FoundIsSameSet, Example};
 
 // Every group of packs in stock is the sample under K times its weight many draw lists.

@@ -1,5 +1,7 @@
 // The refusals of the sampler: every call that refuses answers one `Fault`, which says which layer
 // refused, where, and why. docs/RULES.md has the table.
+#![tactic(auto)]
+
 ghost use Rattle.std.specs.Prelude.{◌≡◌, [], ◌∷◌};
 ghost use Rattle.fault.specs.Refusals.{number_of, register_number, place_of, damage_of, damage_number};
 ghost use Rattle.fault.specs.Refusals.{offline, too_few_blocks, not_register, not_free, number_too_large, in_stock, not_in_stock};

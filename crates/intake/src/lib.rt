@@ -1,4 +1,6 @@
 // The scan intake: from the bytes of a scan to the transactions of its confirmed lines.
+#![tactic(auto)]
+
 ghost use Rattle.std.specs.Prelude.{◌≡◌, ℕ, ◌≤◌, not, ◌&&◌, ◌||◌, List, [], ◌++◌, length, drop, ◌==◌};
 ghost use Rattle.intake.specs.Cancelled.{struck};
 ghost use Rattle.intake.specs.Field.{Holds, zeros};

@@ -1,5 +1,7 @@
 // Tests of the intake on examples: which lines are confirmed, what each refusal of a line is, and what is left in the buffer
 // and the table.
+#![tactic(auto)]
+
 #[cfg(test)]
 mod tests {
     use fault::{Fault, Place};

@@ -1,4 +1,6 @@
 // The kinds of item that a register can hold: pack labels and ward boxes.
+#![tactic(auto)]
+
 mod examples;
 mod forms;
 mod kind;

@@ -1,4 +1,6 @@
 // Tests of the items on examples: published GTINs, days of the calendar, alphabets, forms.
+#![tactic(auto)]
+
 #[cfg(test)]
 mod tests {
     use fault::Fault;

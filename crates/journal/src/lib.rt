@@ -1,4 +1,6 @@
 // The journal of a register: changes to blocks that are committed together or not at all.
+#![tactic(auto)]
+
 mod headers;
 mod laws;
 mod runs;

@@ -1,4 +1,6 @@
 // Where a register lies on its blocks, and how its blocks are read.
+#![tactic(auto)]
+
 mod head;
 mod laws;
 mod packs;

@@ -1,5 +1,7 @@
 // What a confirmed line of the scan field says: `S number code batch expiry` stores a pack, `T number` takes one,
 // and any other line is refused at its first misfit byte.
+#![tactic(auto)]
+
 ghost use Rattle.std.specs.Prelude.{◌≡◌, ◌+◌, ◌<◌, ◌≤◌, length, IfOk, Ok, Err, MatchResult};
 ghost use Rattle.fault.specs.Refusals.{not_transaction};
 ghost use Rattle.lines.specs.declared.Field.TheVariants.{Number};

@@ -1,4 +1,6 @@
 // The pairing of stores with earlier takes, as published: which pack enters the sample, which leaves it.
+#![tactic(auto)]
+
 mod counters;
 mod counts;
 mod laws;

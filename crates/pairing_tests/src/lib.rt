@@ -1,4 +1,6 @@
 // Long mixed runs of the counters against a table that an independent simulation of the published rule made.
+#![tactic(auto)]
+
 #[cfg(test)]
 mod tests {
     use pairing::Counters;

@@ -1,4 +1,6 @@
 // The calls on a register as plans: what each finds, answers and writes, and what a power failure at any write leaves.
+#![tactic(auto)]
+
 ghost use Rattle.plans.specs.Recovery.{Recovers, Makes};
 
 use items::Kind;

@@ -1,4 +1,6 @@
 // Reading a register through, block by block, on any device.
+#![tactic(auto)]
+
 mod rest;
 mod slots;
 mod through;

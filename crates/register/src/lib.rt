@@ -1,4 +1,6 @@
 // The calls on a register at rest: Store, Take, Report and Same, on any device and for any kind of item.
+#![tactic(auto)]
+
 mod blocks;
 mod commits;
 mod comparing;

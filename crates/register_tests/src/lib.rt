@@ -1,4 +1,6 @@
 // Tests of the register: damaged images, and a power failure at every write. What is expected is worked out by hand from docs/RULES.md.
+#![tactic(auto)]
+
 #[cfg(test)]
 mod tests {
     use device::{Entry, Failing, Image, Remains};

@@ -1,4 +1,6 @@
 // The sampler's program.
+#![tactic(auto)]
+
 mod demo;
 mod files;
 mod registers;

@@ -1,4 +1,6 @@
 // Any sequence of calls on one register, and the law of every run.
+#![tactic(auto)]
+
 use pairing::Counts;
 use plans::Opened;
 

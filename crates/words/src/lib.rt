@@ -1,4 +1,6 @@
 // Sources of 32-bit words, and draws from them that favour no value.
+#![tactic(auto)]
+
 mod draws;
 mod laws;
 mod source;

@@ -1,4 +1,6 @@
 // Draws at chosen widths and at the ends of tapes, the values worked out by hand.
+#![tactic(auto)]
+
 #[cfg(test)]
 mod tests {
     use words::{Fallback, Source, Tape, Width};
