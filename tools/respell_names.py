@@ -14,19 +14,15 @@ import os
 import re
 import sys
 
-# A lemma that would have its function's name, and two functions that would have another's.
-LEMMAS = {
-    "store-header": "store_header_lem",
-    "take-header": "take_header_lem",
-    "with_call": "with_call_lem",
-    "in-range": "in_range_lem",
-    "slot-at": "slot_at_lem",
-    "number-at": "number_at_lem",
-    "too_short": "too_short_lem",
-    "at_rest": "at_rest_lem",
-    "number-of": "answered_number",
-    "place-of": "answered_place",
-}
+# Lemmas that would have their function's name.
+LEMMAS = (
+    "all_done at_rest block-fault copy-lost draw-at free-sized goes_on in-range in-stock known-kind left-lost not_free "
+    "number-at one-lost pending-sized refused-early refused-left refused-right report-done report-refused right-last "
+    "slot-at slot-bytes slots-after slots-fault stayed-offline stock-after stock-byte store-block store-header "
+    "store-plan take-header take-plan tape-of too_short with_call"
+).split()
+# Other names that would fall together.
+OTHERS = {"number-of": "answered_number", "place-of": "answered_place", "Slots-read": "SlotsAreRead"}
 NAME = r"[^\s.,;:(){}\[\]⌜⌝`\"|@«»λ]+"
 SIGNED = re.compile(rf"^ *(?:(?:abbrev|unfoldable|pub) )*(?:(data|record) )?({NAME}) +(?:: |:$|[({{].*)")
 IMPORT = re.compile(r"^(?:ghost )?(?:pub )?use ([^\s;{]+?)(?:\.\{([^}]*)\})?;?$", re.M)
@@ -34,8 +30,10 @@ MADE = re.compile(r": (goal|need|given)\.")
 
 
 def respelled(name):
+    if name in OTHERS:
+        return OTHERS[name]
     if name in LEMMAS:
-        return LEMMAS[name]
+        return name.replace("-", "_") + "_lem"
     if not re.fullmatch(r"[A-Za-z][A-Za-z0-9_'-]*", name):
         return name
     if name[0].isupper():

@@ -144,10 +144,10 @@ module _ {l r : Disk} {b : ℕ} (ready : Ready l r b) where
   copy_done nothing = sym (turned_same (put r b (entry_at r b)) true ready.right_online ∙ put_same r b)
 
   -- where the copy is lost, the left side still holds the old entry
-  copy_lost :
+  copy_lost_lem :
       {new : List ℕ} {x : Entry} {e : DeviceError} {r' : Disk} → entry_at l b ≡ x → Copied r b x (Err e) r' →
       Writes (mirror_of l r) b new (Err e) (mirror_of l r')
-  copy_lost q (copied {xs} w) =
+  copy_lost_lem q (copied {xs} w) =
       let p = wrote_err w.wrote ready.right_inside ready.right_online in
       let z = left_by p.0 (entry_at r b) xs in
       let kept : preferred (entry_at l b) z ≡ entry_at (mirror_of l r) b =
@@ -162,10 +162,10 @@ module _ {l r : Disk} {b : ℕ} (ready : Ready l r b) where
       ∙ ap (λ y. turned (put (mirror_of l r) b y) false) kept)
 
   -- where the left write is lost, the right side still holds the old entry
-  left_lost :
+  left_lost_lem :
       {new : List ℕ} {e : DeviceError} {r₁ l' : Disk} → Copied r b (entry_at l b) (Ok tt) r₁ →
       Writes l b new (Err e) l' → Writes (mirror_of l r) b new (Err e) (mirror_of l' r₁)
-  left_lost {new} c w =
+  left_lost_lem {new} c w =
       let p = wrote_err w.wrote ready.left_inside ready.left_online in
       let x = entry_at l b in
       let y = entry_at r b in
@@ -181,10 +181,10 @@ module _ {l r : Disk} {b : ℕ} (ready : Ready l r b) where
       ∙ ap (λ e. turned (put (mirror_of l r) b e) false) left)
 
   -- where the right write is done or lost, the left side holds the new bytes
-  right_last :
+  right_last_lem :
       {new : List ℕ} {r₁ l' r' : Disk} (a : Result (Unit {0}) DeviceError) → Copied r b (entry_at l b) (Ok tt) r₁ →
       Writes l b new (Ok tt) l' → Writes r₁ b new a r' → Writes (mirror_of l r) b new a (mirror_of l' r')
-  right_last {new} {r₁} {l'} {r'} (Ok u) c w v =
+  right_last_lem {new} {r₁} {l'} {r'} (Ok u) c w v =
       let old = preferred (entry_at l b) (entry_at r b) in
       let right : r' ≡ turned (put r b (Bytes new)) true =
       (wrote_ok v.wrote).3
@@ -196,7 +196,7 @@ module _ {l r : Disk} {b : ℕ} (ready : Ready l r b) where
       ((λ i. mirror_of (left_done w i) (right i))
       ∙ mirror_put l r b (Bytes new) (Bytes new) true true
       ∙ turned_same (put (mirror_of l r) b (Bytes new)) true online)
-  right_last {new} {r₁} {l'} {r'} (Err e) c w v =
+  right_last_lem {new} {r₁} {l'} {r'} (Err e) c w v =
       let old = preferred (entry_at l b) (entry_at r b) in
       let q = copy_done c in
       let room : b < blocks r₁ = omega (arith, ap blocks q, blocks_put r b old, ready.right_inside) in
@@ -216,9 +216,9 @@ pub wrote_both :
     {l r : Disk} {b : ℕ} {new : List ℕ} {a : Result (Unit {0}) DeviceError} {l' r' : Disk} → WroteBoth l r b new a l' r' →
     Writes (mirror_of l r) b new a (mirror_of l' r')
 wrote_both {l} {r} {b} {new} (refused h) = writes_refused (mirror_of l r) b new _ h
-wrote_both {l} {r} {b} {new} (copy_lost ready c) = copy_lost ready refl c
-wrote_both {l} {r} {b} {new} (left_lost ready c w) = left_lost ready c w
-wrote_both {l} {r} {b} {new} {a} (right_last ready c w v) = right_last ready a c w v
+wrote_both {l} {r} {b} {new} (copy_lost ready c) = copy_lost_lem ready refl c
+wrote_both {l} {r} {b} {new} (left_lost ready c w) = left_lost_lem ready c w
+wrote_both {l} {r} {b} {new} {a} (right_last ready c w v) = right_last_lem ready a c w v
 
 -- ---- bringing it online
 

@@ -9,8 +9,8 @@ use Rattle.std.specs.Result.{result_ok}
 use Rattle.std.proofs.lemmas.Int.{ints}
 use Rattle.std.proofs.lemmas.Bool.Decides.{nat_tests}
 use Rattle.std.proofs.lemmas.Bool.{and_parts, and_from, cond-true, cond-false, false≢true}
-use Rattle.bytes.specs.Zeros.{every, blank, zeros}
-use Rattle.bytes.proofs.Zeros.{zeros_blank, blank_zeros}
+use Rattle.octets.specs.Zeros.{every, blank, zeros}
+use Rattle.octets.proofs.Zeros.{zeros_blank, blank_zeros}
 use Rattle.items.specs.BoxForms.{box_form, box_reading, difference_form, ended, after_ward, with_difference, two_bytes}
 use Rattle.items.specs.Boxes.{ward_box, ward_fits}
 use Rattle.items.specs.Forms.{counted, front, behind}

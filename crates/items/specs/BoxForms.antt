@@ -4,7 +4,7 @@ use Rattle.std.specs.Prelude.{ℕ, ◌+◌, ◌*◌, ◌/◌, ◌%◌, Bool, con
 use Rattle.std.specs.Int.{w16}
 use Rattle.std.proofs.Common.{of_z, to_z}
 use Rattle.std.specs.Result.{result_ok}
-use Rattle.bytes.specs.Zeros.{every, blank}
+use Rattle.octets.specs.Zeros.{every, blank}
 use Rattle.items.specs.Boxes.{ward_box}
 use Rattle.items.specs.Forms.{counted, front, behind}
 use Rattle.items.specs.Texts.{chars, padded}

@@ -6,14 +6,14 @@ use Rattle.std.specs.Int.{w16}
 use Rattle.std.proofs.lemmas.List.{nil_from_length}
 use Rattle.std.proofs.lemmas.Bool.Decides.{nat_tests}
 use Rattle.std.proofs.lemmas.Bool.{and_parts, and_from, or_cases, lt-ltb, eqb-true}
-use Rattle.bytes.specs.Zeros.{every, zeros}
+use Rattle.octets.specs.Zeros.{every, zeros}
 use Rattle.items.specs.Alphabets.{letter}
 use Rattle.items.specs.BoxForms.{box_form, difference_form}
 use Rattle.items.specs.Boxes.{ward_fits}
 use Rattle.items.specs.Forms.{counted, label_form}
 use Rattle.items.specs.Labels.{code_fits, batch_fits, expiry_fits}
 use Rattle.items.specs.Lawful.{lawful_code, lawful_batch, lawful_expiry, lawful_ward, lawful_difference}
-use Rattle.bytes.proofs.Under.{Under256, under_append, under_zeros}
+use Rattle.octets.proofs.Under.{Under256, under_append, under_zeros}
 use Rattle.items.specs.Texts.{chars, padded}
 use Rattle.items.specs.declared.label.Label.{Label}
 use Rattle.items.specs.declared.rules.Alphabet.{Alphabet}

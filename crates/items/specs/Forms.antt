@@ -2,7 +2,7 @@
 -- Assumes nothing.
 use Rattle.std.specs.Prelude.{ℕ, cond, ◌&&◌, List, ◌∷◌, ◌++◌, length, take, drop, None, Option, ◌==◌, slice_index}
 use Rattle.std.specs.Result.{result_ok}
-use Rattle.bytes.specs.Zeros.{every, blank}
+use Rattle.octets.specs.Zeros.{every, blank}
 use Rattle.items.specs.Labels.{label}
 use Rattle.items.specs.Texts.{chars, padded}
 use Rattle.items.specs.declared.label.Label.{Label}

@@ -4,8 +4,8 @@ use Rattle.std.specs.Prelude.{◌≡◌, ℕ, ◌+◌, ◌-◌, ◌≤◌, Bool,
 use Rattle.std.proofs.Common.{sym, ap, ◌∙◌, append_assoc, arith, length-append, eqb-true, eq-eqb}
 use Rattle.std.specs.Result.{result_ok}
 use Rattle.std.proofs.lemmas.Bool.{and_parts, and_from, cond-true, cond-false}
-use Rattle.bytes.specs.Zeros.{every, blank, zeros}
-use Rattle.bytes.proofs.Zeros.{zeros_blank, blank_zeros}
+use Rattle.octets.specs.Zeros.{every, blank, zeros}
+use Rattle.octets.proofs.Zeros.{zeros_blank, blank_zeros}
 use Rattle.items.specs.Forms.{counted, front, behind, label_form, label_reading}
 use Rattle.items.specs.Labels.{label, code_fits, batch_fits, expiry_fits}
 use Rattle.items.specs.Texts.{chars, padded}

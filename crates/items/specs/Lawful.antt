@@ -1,7 +1,7 @@
 -- Which sections are lawful: those of a pack label and those of a ward box.
 -- Assumes nothing.
 use Rattle.std.specs.Prelude.{ℕ, ◌+◌, ◌-◌, ◌*◌, Bool, true, ◌&&◌, ◌||◌, List, length, ℤ, pos, negsuc, Some, None, Option, ◌==◌, int_le, nat_le, slice_index}
-use Rattle.bytes.specs.Zeros.{every}
+use Rattle.octets.specs.Zeros.{every}
 use Rattle.items.specs.Alphabets.{letter}
 use Rattle.items.specs.Calendar.{is_day}
 use Rattle.items.specs.CheckDigit.{checks}

@@ -7,7 +7,7 @@ use Rattle.std.proofs.Math.Seq.{take-append_seam, paste}
 use denote.Struct.Props.{props}
 use Rattle.std.proofs.lemmas.List.Edits.{paste_more, paste_all}
 use Rattle.std.proofs.lemmas.List.{drop-replicate, length-replicate}
-use Rattle.bytes.specs.Zeros.{zeros}
+use Rattle.octets.specs.Zeros.{zeros}
 use Rattle.items.specs.Padded.{Padded}
 use Rattle.items.specs.Texts.{chars, padded, text, text_at}
 use Rattle.items.specs.declared.text.Text.{Text}

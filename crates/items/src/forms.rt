@@ -9,7 +9,7 @@ pub(crate) fn put(form: &mut [u8], at: usize, bytes: &[u8]) -> usize
     ensures next { result ≡ at + length bytes.now }
     ensures after { form.new ≡ paste form.old at bytes.now (length bytes.now) }
 {
-    bytes::put(form, at, bytes);
+    octets::put(form, at, bytes);
     at + bytes.len()
 }
 

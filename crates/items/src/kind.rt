@@ -1,5 +1,5 @@
 ghost use Rattle.std.specs.Prelude.{◌≡◌, ℕ, true, ◌⊎◌, List, length, Some, Option, nat_lt};
-ghost use Rattle.bytes.specs.Zeros.{every};
+ghost use Rattle.octets.specs.Zeros.{every};
 
 // A kind of item, by its code, the form of each item and the reading of forms.
 pub trait Kind: Copy {

@@ -6,10 +6,10 @@ use Rattle.std.specs.Str.{bytes_eq}
 use Rattle.std.proofs.lemmas.Slice.Eq.{bytes_eq-Decides}
 use Rattle.std.proofs.lemmas.List.{drop_more, drop_all}
 use Rattle.std.proofs.lemmas.Bool.{and_parts, and_from, cond-true, cond-false, ltb-true, lt-ltb}
-use Rattle.bytes.specs.Numbers.{little, value_of, number_at}
-use Rattle.bytes.specs.Zeros.{zeros, every, blank}
-use Rattle.bytes.proofs.Numbers.{value_little, bytes_there, number_there_lt, zeros_there, cut}
-use Rattle.bytes.proofs.Under.{under_all}
+use Rattle.octets.specs.Numbers.{little, value_of, number_at}
+use Rattle.octets.specs.Zeros.{zeros, every, blank}
+use Rattle.octets.proofs.Numbers.{value_little, bytes_there, number_there_lt, zeros_there, cut}
+use Rattle.octets.proofs.Under.{under_all}
 use Rattle.device.specs.declared.Entry.TheVariants.{Bytes}
 use Rattle.journal.specs.declared.headers.Header.TheVariants as header
 use Rattle.journal.specs.declared.headers.Pending.{Pending}
@@ -67,9 +67,9 @@ marked_back : (f : Fields) → marked (field_bytes f) ≡ true
 unfolding field_bytes
 marked_back f = refl
 
-not_free : (f : Fields) → bytes_eq (field_bytes f) free_bytes ≡ false
+not_free_lem : (f : Fields) → bytes_eq (field_bytes f) free_bytes ≡ false
 unfolding field_bytes free_bytes
-not_free f = refl
+not_free_lem f = refl
 
 -- ---- a lawful call, read
 
@@ -120,22 +120,22 @@ read_marked bs o other m is = cond-false _ _ _ other ∙ cond-true _ _ _ m ∙ a
 
 -- ---- a header fills its block
 
-pub free_sized : length free_bytes ≡ 512
+pub free_sized_lem : length free_bytes ≡ 512
 unfolding free_bytes
-free_sized = refl
+free_sized_lem = refl
 
-pub pending_sized : (p : Pending) → length (pending_bytes p) ≡ 512
+pub pending_sized_lem : (p : Pending) → length (pending_bytes p) ≡ 512
 unfolding field_bytes
-pending_sized p = refl
+pending_sized_lem p = refl
 
 pub headers_read_back : HeadersReadBack
 unfolding header_of
 headers_read_back = record {
-  free_sized = free_sized;
-  pending_sized = pending_sized;
+  free_sized = free_sized_lem;
+  pending_sized = pending_sized_lem;
   free = cond-true _ _ _ ((bytes_eq-Decides free_bytes free_bytes).1 refl);
   pending = λ p h.
-      read_marked (pending_bytes p) _ (not_free (fields_for p)) (marked_back (fields_for p))
+      read_marked (pending_bytes p) _ (not_free_lem (fields_for p)) (marked_back (fields_for p))
       (ap pending_of (fields_back (fields_for p) (fits p h)) ∙ pending_back p h);
 }
 

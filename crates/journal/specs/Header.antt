@@ -2,8 +2,8 @@
 -- Assumes nothing.
 use Rattle.std.specs.Prelude.{ℕ, Bool, cond, ◌&&◌, List, [], ◌∷◌, ◌++◌, take, drop, Some, None, Ok, Err, codes, Option, Result, ◌==◌, nat_le, nat_lt, slice_index}
 use Rattle.std.specs.Str.{bytes_eq}
-use Rattle.bytes.specs.Numbers.{little, number_at}
-use Rattle.bytes.specs.Zeros.{zeros, every, blank}
+use Rattle.octets.specs.Numbers.{little, number_at}
+use Rattle.octets.specs.Zeros.{zeros, every, blank}
 use Rattle.fault.specs.declared.Fault.{Fault}
 use Rattle.fault.specs.declared.Damage.TheVariants.{Mark}
 use Rattle.fault.specs.Refusals.{not_free, not_register}

@@ -3,9 +3,9 @@
 use Rattle.std.proofs.Common.{◌≡◌, ℕ, zero, suc, ◌+◌, ◌*◌, ◌<◌, true, eqb, ltb, List, ◌++◌, length, get_or, take, sym, ap, ◌∙◌, append_assoc, arith, length-append, take_all}
 use Rattle.std.proofs.lemmas.List.{append-nil, take_at, length-take-le}
 use Rattle.std.proofs.lemmas.Bool.{cond-true, lt-ltb, eq-eqb, eqb-true, and_from, and_parts}
-use Rattle.bytes.specs.Edits.{written}
-use Rattle.bytes.specs.Zeros.{every}
-use Rattle.bytes.proofs.Under.{Under256, under_from}
+use Rattle.octets.specs.Edits.{written}
+use Rattle.octets.specs.Zeros.{every}
+use Rattle.octets.proofs.Under.{Under256, under_from}
 use Rattle.layout.specs.Edits.{with_part}
 use Rattle.layout.specs.Layout.{joined}
 use Rattle.layout.specs.Reading.{is_block}

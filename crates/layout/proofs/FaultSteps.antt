@@ -5,7 +5,7 @@ use Rattle.std.proofs.lemmas.Bool.{lt-ltb, le-ltb}
 use Rattle.fault.specs.Refusals.{not_register}
 use Rattle.fault.specs.declared.Damage.TheVariants as damage
 use Rattle.fault.specs.declared.Fault.{Fault}
-use Rattle.bytes.specs.Numbers.{number_at}
+use Rattle.octets.specs.Numbers.{number_at}
 use Rattle.layout.specs.Reading.{unless, or_else, unless_fault, blank_at, used_fault}
 
 -- the form behind a slot's first four bytes

@@ -6,11 +6,11 @@ use Rattle.std.proofs.lemmas.Slice.Eq.{bytes_eq-Decides}
 use Rattle.std.proofs.lemmas.List.{take_all}
 use Rattle.std.proofs.lemmas.Bool.{and_from, and_parts, or_left, or_right, lt-ltb, le-leb, eq-eqb, ltb-true, leb-true, eqb-true}
 use Rattle.fault.specs.declared.Damage.TheVariants as damage
-use Rattle.bytes.specs.Numbers.{little, number_at}
-use Rattle.bytes.specs.Zeros.{every, blank, zeros}
-use Rattle.bytes.proofs.Numbers.{little_bytes, value_little, bytes_there, zeros_there, cut}
-use Rattle.bytes.proofs.Under.{under_append, under_zeros, Under256}
-use Rattle.bytes.proofs.Zeros.{zeros_blank}
+use Rattle.octets.specs.Numbers.{little, number_at}
+use Rattle.octets.specs.Zeros.{every, blank, zeros}
+use Rattle.octets.proofs.Numbers.{little_bytes, value_little, bytes_there, zeros_there, cut}
+use Rattle.octets.proofs.Under.{under_append, under_zeros, Under256}
+use Rattle.octets.proofs.Zeros.{zeros_blank}
 use Rattle.layout.proofs.Blocks.{block_length, block_under, block_from}
 use Rattle.pairing.specs.Ranges.{Ranges}
 use Rattle.pairing.specs.declared.counts.Counts.{Counts}
@@ -161,15 +161,15 @@ known_small : (code : ℕ) → Known code → code < 256
 known_small code (inl e) = omega (arith, e)
 known_small code (inr e) = omega (arith, e)
 
-known_kind : (code : ℕ) → Known code → known_kind code ≡ true
-known_kind code (inl e) = or_left (eqb code 1) (eqb code 2) (eq-eqb code 1 e)
-known_kind code (inr e) = or_right (eqb code 1) (eqb code 2) (eq-eqb code 2 e)
+known_kind_lem : (code : ℕ) → Known code → known_kind code ≡ true
+known_kind_lem code (inl e) = or_left (eqb code 1) (eqb code 2) (eq-eqb code 1 e)
+known_kind_lem code (inr e) = or_right (eqb code 1) (eqb code 2) (eq-eqb code 2 e)
 
 pub head_reads : (code : ℕ) (n : Counts) → Known code → Ranges n → n.calls < 2 ^ 32 → (head_fault code (head_of code n) ≡ None) × (counts_in (head_of code n) ≡ n)
 head_reads code n k r few =
     let counts = counts_read code n r few in
     let kind = kind_read code n (known_small code k) in (
-      head_passes code (head_of code n) (head_marked code n) (ap known_kind kind ∙ known_kind code k) (ap in_range counts ∙ in_range_lem n r few)
+      head_passes code (head_of code n) (head_marked code n) (ap known_kind kind ∙ known_kind_lem code k) (ap in_range counts ∙ in_range_lem n r few)
           (ap balanced counts ∙ eq-eqb (n.sampled + n.c1) (min n.capacity (n.size + (n.c1 + n.c2))) r.balance)
           (eq-eqb (kind_in (head_of code n)) code kind),
       counts,

@@ -5,12 +5,12 @@ use Rattle.std.proofs.lemmas.Bool.{and_parts, leb-true, ltb-true, eqb-true, eq-e
 use Rattle.fault.specs.Refusals.{not_register}
 use Rattle.fault.specs.declared.Damage.TheVariants as damage
 use Rattle.fault.specs.declared.Fault.{Fault}
-use Rattle.bytes.specs.Numbers.{little, number_at}
-use Rattle.bytes.specs.Zeros.{zeros}
-use Rattle.bytes.proofs.Numbers.{number_more}
+use Rattle.octets.specs.Numbers.{little, number_at}
+use Rattle.octets.specs.Zeros.{zeros}
+use Rattle.octets.proofs.Numbers.{number_more}
 use Rattle.pairing.specs.Ranges.{Limits, Sample, Room, Usage, Ranges}
 use Rattle.pairing.specs.declared.counts.Counts.{Counts}
-use Rattle.bytes.specs.Edits.{placed}
+use Rattle.octets.specs.Edits.{placed}
 use Rattle.layout.specs.Layout.{mark, head_of}
 use Rattle.layout.specs.Reading.{unless, or_else, unless_fault, marked, kind_in, known_kind, counts_in, in_range, balanced, head_fault}
 

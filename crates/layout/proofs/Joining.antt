@@ -4,7 +4,7 @@ use Rattle.std.proofs.Common.{◌≡◌, ℕ, zero, suc, ◌+◌, ◌*◌, ◌<�
 use lib.ListN.{get_or-append}
 use lib.Seq.{take-append-add, drop-append-add}
 use Rattle.std.proofs.lemmas.List.{nil_from_length, get_or-append-add}
-use Rattle.bytes.proofs.Under.{under_append, Under256}
+use Rattle.octets.proofs.Under.{under_append, Under256}
 use Rattle.layout.specs.Layout.{joined}
 
 module _ (part : ℕ → List ℕ) (w : ℕ) where

@@ -5,7 +5,7 @@ use Rattle.std.proofs.lemmas.Bool.{cond-true, cond-false, lt-ltb, le-ltb, ne_eqb
 use Rattle.fault.specs.declared.Damage.TheVariants as damage
 use Rattle.device.specs.declared.Entry.{Entry}
 use Rattle.device.specs.declared.Entry.TheVariants.{Bytes}
-use Rattle.bytes.specs.Zeros.{every}
+use Rattle.octets.specs.Zeros.{every}
 use Rattle.pairing.specs.Ranges.{Ranges}
 use Rattle.pairing.specs.Reservoir.{Reservoir}
 use Rattle.pairing.specs.Rules.{count_below}
@@ -129,12 +129,12 @@ module _ {X : Type 0} (code : ℕ) (form : X → List ℕ) (reading : List ℕ �
     sample : (i : ℕ) → i < 512 → slot_in blocks i ≡ slot_at form r.slots i
     sample i h = slot_in_block form sized blocks r.slots i (parts.slots (i / 8) (omega arith))
 
-    in_stock : (j : ℕ) → j < length r.slots → r.stock (number_of r.slots j) ≡ true
-    in_stock = numbers_have (λ p. r.stock p ≡ true) r.slots storable.lawful.stocked
+    in_stock_lem : (j : ℕ) → j < length r.slots → r.stock (number_of r.slots j) ≡ true
+    in_stock_lem = numbers_have (λ p. r.stock p ≡ true) r.slots storable.lawful.stocked
 
     small : (j : ℕ) → j < length r.slots → number_of r.slots j < 32768
     small j h =
-        ⊎_elim (λ l. l) (λ l. absurd (both_ways _ (storable.lawful.below _ l) (in_stock j h))) (cases_lt (number_of r.slots j) 32768)
+        ⊎_elim (λ l. l) (λ l. absurd (both_ways _ (storable.lawful.below _ l) (in_stock_lem j h))) (cases_lt (number_of r.slots j) 32768)
 
     clean : Clean code reading blocks
     clean = record {
@@ -144,7 +144,7 @@ module _ {X : Type 0} (code : ℕ) (form : X → List ℕ) (reading : List ℕ �
       counted = stock_there_counted blocks stock_blocks ∙ ap (λ s. count_below s 32768) stock ∙ sym storable.lawful.counted ∙ sym (ap (λ n. n.size) counts);
       slots = ap (λ n. first_of (slots_fault reading blocks n.sampled) 0 64) counts
           ∙ slots_fault_none form reading round blocks r.slots sample few small
-          (λ j h. ap (λ s. s (number_of r.slots j)) stock ∙ in_stock j h) storable.lawful.distinct
+          (λ j h. ap (λ s. s (number_of r.slots j)) stock ∙ in_stock_lem j h) storable.lawful.distinct
           (λ j h. block_reads blocks (14 + j) (slot_block form r.slots j) (parts.slots j h) (slot_block_is_block form bounded sized r.slots j));
     }
 

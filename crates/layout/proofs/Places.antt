@@ -2,10 +2,10 @@
 -- Assumes nothing.
 use Rattle.std.proofs.Common.{◌≡◌, ℕ, ◌+◌, List, ◌++◌, length, drop, ap, ◌∙◌, arith}
 use Rattle.std.proofs.lemmas.List.{append-nil}
-use Rattle.bytes.specs.Edits.{placed}
-use Rattle.bytes.specs.Numbers.{little}
-use Rattle.bytes.specs.Zeros.{zeros}
-use Rattle.bytes.proofs.Edits.{placed_fits}
+use Rattle.octets.specs.Edits.{placed}
+use Rattle.octets.specs.Numbers.{little}
+use Rattle.octets.specs.Zeros.{zeros}
+use Rattle.octets.proofs.Edits.{placed_fits}
 
 -- its number and its form, written into zeros
 pub slot_made : (number : ℕ) (low f form f' : List ℕ) → low ≡ little 2 number → f ≡ placed (zeros 64) 0 low → f' ≡ placed f 4 form → length form ≡ 60 → f' ≡ little 2 number ++ (zeros 2 ++ form)

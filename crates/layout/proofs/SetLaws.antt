@@ -6,12 +6,12 @@ use Rattle.std.proofs.lemmas.Nat.{one_shl, pow_below}
 use Rattle.std.proofs.lemmas.List.{ext_get_or, get_or-set_same, get_or-set_other, get_or_past}
 use Rattle.std.proofs.lemmas.Bool.{cases_eq, eq-eqb, ne_eqb}
 use Rattle.std.proofs.lemmas.Bool.Decides.{nat_tests, Decides-like}
-use Rattle.bytes.specs.Zeros.{zeros}
+use Rattle.octets.specs.Zeros.{zeros}
 use Rattle.pairing.specs.Reservoir.{with, without}
 use Rattle.layout.specs.Layout.{stock_block}
 use Rattle.layout.specs.Reading.{bit_at, in_set}
 use Rattle.layout.proofs.BitLaws.{zero_bit, bit_read, or_bit, and_bit, pow_bit, flip_bit}
-use Rattle.layout.proofs.StockLaws.{byte_back, packed_like, length_stock, stock_byte}
+use Rattle.layout.proofs.StockLaws.{byte_back, packed_like, length_stock, stock_byte_lem}
 
 get_d_zeros : (n i : ℕ) → get_or (zeros n) i 0 ≡ 0
 get_d_zeros zero i = refl
@@ -125,4 +125,4 @@ zeros_past bytes j small h =
     get_d_zeros 512 i
     ∙ sym (get_or_past bytes (512 * j + i) 0 (omega arith))
     ∙ sym (byte_back bytes (512 * j + i) (small (512 * j + i)))
-    ∙ sym (stock_byte (in_set bytes) j i l))
+    ∙ sym (stock_byte_lem (in_set bytes) j i l))

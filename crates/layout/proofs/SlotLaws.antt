@@ -6,11 +6,11 @@ use Rattle.std.proofs.lemmas.Bool.{and_parts, and_from, eqb-true, eq-eqb, lt-ltb
 use Rattle.fault.specs.declared.Damage.TheVariants as damage
 use Rattle.device.specs.declared.Entry.{Entry}
 use Rattle.device.specs.declared.Entry.TheVariants.{Bytes}
-use Rattle.bytes.specs.Numbers.{little, number_at}
-use Rattle.bytes.specs.Zeros.{every, blank, zeros}
-use Rattle.bytes.proofs.Numbers.{little_bytes, bytes_there, zeros_there, cut}
-use Rattle.bytes.proofs.Under.{under_append, under_zeros, Under256, under_take, under_drop}
-use Rattle.bytes.proofs.Zeros.{zeros_blank, blank_zeros}
+use Rattle.octets.specs.Numbers.{little, number_at}
+use Rattle.octets.specs.Zeros.{every, blank, zeros}
+use Rattle.octets.proofs.Numbers.{little_bytes, bytes_there, zeros_there, cut}
+use Rattle.octets.proofs.Under.{under_append, under_zeros, Under256, under_take, under_drop}
+use Rattle.octets.proofs.Zeros.{zeros_blank, blank_zeros}
 use Rattle.layout.proofs.Blocks.{block_length, block_under, block_from}
 use Rattle.pairing.specs.Reservoir.{Slot}
 use Rattle.pairing.specs.Rules.{bit, occurs}
@@ -298,7 +298,7 @@ slot_in_bytes blocks i h =
     )
 
 -- n slots from the i-th on, as they were read
-record SlotsRead {X : Type 0} (form : X → List ℕ) (blocks : ℕ → Entry) (i n : ℕ) (slots : List (Slot X)) : Type 0 where
+record SlotsAreRead {X : Type 0} (form : X → List ℕ) (blocks : ℕ → Entry) (i n : ℕ) (slots : List (Slot X)) : Type 0 where
   count : length slots ≡ n
   laid : (j : ℕ) → j < n → slot_at form slots j ≡ slot_in blocks (i + j)
   numbers : (j : ℕ) → j < n → number_in blocks (i + j) ≡ number_of slots j
@@ -306,7 +306,7 @@ record SlotsRead {X : Type 0} (form : X → List ℕ) (blocks : ℕ → Entry) (
 module _ {X : Type 0} (form : X → List ℕ) (reading : List ℕ → Option X) (exact : (s : List ℕ) (x : X) → reading s ≡ Some x → s ≡ form x)
     (blocks : ℕ → Entry) where
   one_more : (i n : ℕ) (x : X) (rest : List (Slot X)) → slot_in blocks i ≡ slot_bytes form (record { number = number_in blocks i; item = x }) →
-      SlotsRead form blocks (i + 1) n rest → SlotsRead form blocks i (suc n) (record { number = number_in blocks i; item = x } ∷ rest)
+      SlotsAreRead form blocks (i + 1) n rest → SlotsAreRead form blocks i (suc n) (record { number = number_in blocks i; item = x } ∷ rest)
   one_more i n x rest here r = record { count = ap suc r.count; laid = laid; numbers = numbers }
     where
       laid : (j : ℕ) → j < suc n → slot_at form (record { number = number_in blocks i; item = x } ∷ rest) j ≡ slot_in blocks (i + j)
@@ -323,7 +323,7 @@ module _ {X : Type 0} (form : X → List ℕ) (reading : List ℕ → Option X) 
     bytes : Under256 (slot_in blocks i)
     used : Used reading (left_at blocks i) (slot_in blocks i)
 
-  all_read : (i n : ℕ) → ((j : ℕ) → j < n → Ready (i + j)) → SlotsRead form blocks i n (slots_in reading blocks i n)
+  all_read : (i n : ℕ) → ((j : ℕ) → j < n → Ready (i + j)) → SlotsAreRead form blocks i n (slots_in reading blocks i n)
   all_read i zero h = record { count = refl; laid = λ j l. absurd (omega arith); numbers = λ j l. absurd (omega arith) }
   all_read i (suc n) h =
       let here : Ready i = subst Ready {x = i + 0} (omega arith) (h 0 (omega arith)) in
@@ -331,7 +331,7 @@ module _ {X : Type 0} (form : X → List ℕ) (reading : List ℕ → Option X) 
       let x = some.0 in
       let rest = slots_in reading blocks (i + 1) n in
       let is : slots_in reading blocks i (suc n) ≡ record { number = number_in blocks i; item = x } ∷ rest = ap (λ o. with_item (number_in blocks i) o rest) some.1 in
-      subst (SlotsRead form blocks i (suc n)) (sym is)
+      subst (SlotsAreRead form blocks i (suc n)) (sym is)
       (one_more i n x rest
       (used_exact form (slot_in blocks i) x here.long here.bytes here.used.blanks (exact (form_in blocks i) x some.1))
       (all_read (i + 1) n (λ j l. subst Ready {x = i + suc j} (omega arith) (h (suc j) (omega arith)))))
@@ -360,15 +360,15 @@ module _ {X : Type 0} (form : X → List ℕ) (reading : List ℕ → Option X) 
       let block : i / 8 < 64 = omega arith in
       ap (slot_fault reading blocks k (14 + i / 8)) {y = 8 * (i / 8) + i % 8} (omega arith) ∙ (block_none (i / 8) block).1 (i % 8) place
 
-  slot_bytes : (i : ℕ) → i < 512 → (length (slot_in blocks i) ≡ 64) × (Under256 (slot_in blocks i))
-  slot_bytes i h =
+  slot_bytes_lem : (i : ℕ) → i < 512 → (length (slot_in blocks i) ≡ 64) × (Under256 (slot_in blocks i))
+  slot_bytes_lem i h =
       let block : i / 8 < 64 = omega arith in
       slot_in_bytes blocks i (block_read blocks (14 + i / 8) (block_none (i / 8) block).0).1
 
   ready : (i : ℕ) → i < k → Ready form reading exact blocks i
   ready i h = record {
-    long = (slot_bytes i (omega arith)).0;
-    bytes = (slot_bytes i (omega arith)).1;
+    long = (slot_bytes_lem i (omega arith)).0;
+    bytes = (slot_bytes_lem i (omega arith)).1;
     used = used_parts reading (left_at blocks i) (14 + i / 8) (slot_in blocks i)
         (sym (cond-true (ltb i k) _ _ (lt-ltb i k h)) ∙ slot_none i (omega arith));
   }
@@ -376,7 +376,7 @@ module _ {X : Type 0} (form : X → List ℕ) (reading : List ℕ → Option X) 
   abbrev slots : List (Slot X)
   slots = slots_in reading blocks 0 k
 
-  read : SlotsRead form blocks 0 k slots
+  read : SlotsAreRead form blocks 0 k slots
   read = all_read form reading exact blocks 0 k (λ j l. subst (Ready form reading exact blocks) {x = j} (omega arith) (ready j l))
 
   slot_laid : (i : ℕ) → i < 512 → slot_in blocks i ≡ slot_at form slots i
@@ -385,7 +385,7 @@ module _ {X : Type 0} (form : X → List ℕ) (reading : List ℕ → Option X) 
       (λ l. ap (slot_in blocks) (sym (zero-add i)) ∙ sym (read.laid i l))
       (λ l.
       blank_zeros (slot_in blocks i) (unused_blank (14 + i / 8) (slot_in blocks i) (sym (cond-false (ltb i k) _ _ (le-ltb i k l)) ∙ slot_none i h))
-      ∙ ap zeros (slot_bytes i h).0
+      ∙ ap zeros (slot_bytes_lem i h).0
       ∙ sym (slot_at_past form slots i (omega (arith, read.count))))
       (cases_lt i k)
 

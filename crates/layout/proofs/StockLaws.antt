@@ -16,7 +16,7 @@ use Rattle.device.specs.declared.Entry.{Entry}
 use Rattle.layout.specs.Layout.{packed, stock_byte, stock_block, joined}
 use Rattle.layout.specs.Reading.{bit_at, in_set, ones_in, is_block, bytes_of, stock_in}
 use Rattle.layout.proofs.Joining.{length_joined, get_d_joined, joined_under, joined_shift, joined_like}
-use Rattle.bytes.proofs.Under.{Under256, under_at, under_from, under_rest}
+use Rattle.octets.proofs.Under.{Under256, under_at, under_from, under_rest}
 use Rattle.layout.proofs.Blocks.{block_length, block_under, block_from}
 
 -- ---- one byte
@@ -106,15 +106,15 @@ unfolding stock_block
 length_stock s j = length-map-range_with_len (stock_byte s) (512 * j) 512
 
 -- byte k of block j
-pub stock_byte : (s : ℕ → Bool) (j k : ℕ) → k < 512 → get_or (stock_block s j) k 0 ≡ stock_byte s (512 * j + k)
+pub stock_byte_lem : (s : ℕ → Bool) (j k : ℕ) → k < 512 → get_or (stock_block s j) k 0 ≡ stock_byte s (512 * j + k)
 unfolding stock_block
-stock_byte s j k h = get_or-map-range_with_len (stock_byte s) (512 * j) 512 k (512 * j + k) 0 h refl
+stock_byte_lem s j k h = get_or-map-range_with_len (stock_byte s) (512 * j) 512 k (512 * j + k) 0 h refl
 
 -- 512 bytes that are those of a set
 stock_by : (s : ℕ → Bool) (j : ℕ) (xs : List ℕ) → length xs ≡ 512 → ((k : ℕ) → k < 512 → get_or xs k 0 ≡ stock_byte s (512 * j + k)) → xs ≡ stock_block s j
 stock_by s j xs long same =
     let l = length_stock s j in
-    ext_get_or 0 xs (stock_block s j) (long ∙ sym l) (λ k h. same k (omega (arith, h, long)) ∙ sym (stock_byte s j k (omega (arith, h, long))))
+    ext_get_or 0 xs (stock_block s j) (long ∙ sym l) (λ k h. same k (omega (arith, h, long)) ∙ sym (stock_byte_lem s j k (omega (arith, h, long))))
 
 pub stock_is_block : (s : ℕ → Bool) (j : ℕ) → is_block (stock_block s j) ≡ true
 stock_is_block s j = block_from (stock_block s j) (length_stock s j) (under_from (stock_block s j) under)
@@ -122,7 +122,7 @@ stock_is_block s j = block_from (stock_block s j) (length_stock s j) (under_from
     under : (k : ℕ) → get_or (stock_block s j) k 0 < 256
     under k =
         ⊎_elim
-        (λ h. subst (λ b. b < 256) (sym (stock_byte s j k h)) (packed_lt s (8 * (512 * j + k)) 8))
+        (λ h. subst (λ b. b < 256) (sym (stock_byte_lem s j k h)) (packed_lt s (8 * (512 * j + k)) 8))
         (λ h. subst (λ b. b < 256) (sym (get_or_past (stock_block s j) k 0 (omega (arith, h, length_stock s j)))) (omega arith))
         (cases_lt k 512)
 
@@ -130,7 +130,7 @@ stock_is_block s j = block_from (stock_block s j) (length_stock s j) (under_from
 pub stock_like : (s s' : ℕ → Bool) (j : ℕ) → ((p : ℕ) → 4096 * j ≤ p → p < 4096 * j + 4096 → s p ≡ s' p) → stock_block s j ≡ stock_block s' j
 stock_like s s' j same =
     stock_by s' j (stock_block s j) (length_stock s j)
-    (λ k h. stock_byte s j k h ∙ packed_like s s' (8 * (512 * j + k)) 8 (λ t l. same (8 * (512 * j + k) + t) (omega arith) (omega arith)))
+    (λ k h. stock_byte_lem s j k h ∙ packed_like s s' (8 * (512 * j + k)) 8 (λ t l. same (8 * (512 * j + k) + t) (omega arith) (omega arith)))
 
 pub stock_with : (s : ℕ → Bool) (p j : ℕ) → j ≢ p / 4096 → stock_block (with s p) j ≡ stock_block s j
 stock_with s p j other = stock_like (with s p) s j (λ q low high. with_other s p q (λ e. other (omega (arith, e, low, high))))
@@ -150,7 +150,7 @@ set_packed_at s below p =
     ap (λ k. get_or bytes k 0) i
     ∙ get_d_joined (stock_block s) 512 0 8 (p / 8 / 512) (p / 8 % 512) (λ b _ _. length_stock s b) (omega (arith, h)) (omega arith)
     ∙ ap (λ m. get_or (stock_block s m) (p / 8 % 512) 0) {y = p / 8 / 512} (omega arith)
-    ∙ stock_byte s (p / 8 / 512) (p / 8 % 512) (omega arith)
+    ∙ stock_byte_lem s (p / 8 / 512) (p / 8 % 512) (omega arith)
     ∙ ap (stock_byte s) (sym i)))
     (λ h. set_past bytes p (omega (arith, h, length_joined (stock_block s) 512 0 8 (λ b _ _. length_stock s b))) ∙ sym (below p h))
     (cases_lt p 32768)

@@ -1,7 +1,7 @@
 -- A block put into a set.
 -- Assumes nothing.
 use Rattle.std.specs.Prelude.{ℕ, ◌*◌, cond, List, nat_lt}
-use Rattle.bytes.specs.Edits.{written}
+use Rattle.octets.specs.Edits.{written}
 
 -- the eight blocks of a set, with another j-th
 unfoldable pub with_part : List ℕ → ℕ → List ℕ → List ℕ

@@ -4,8 +4,8 @@ use Rattle.std.specs.Prelude.{◌≡◌, ℕ, zero, suc, ◌+◌, ◌-◌, ◌*�
 use Rattle.std.specs.List.{range_with_len}
 use Rattle.device.specs.declared.Entry.{Entry}
 use Rattle.device.specs.declared.Entry.TheVariants.{Bytes}
-use Rattle.bytes.specs.Numbers.{little}
-use Rattle.bytes.specs.Zeros.{zeros}
+use Rattle.octets.specs.Numbers.{little}
+use Rattle.octets.specs.Zeros.{zeros}
 use Rattle.pairing.specs.Reservoir.{Slot, Reservoir}
 use Rattle.pairing.specs.Rules.{bit}
 use Rattle.pairing.specs.Steps.{counts_of}

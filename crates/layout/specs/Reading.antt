@@ -8,8 +8,8 @@ use Rattle.fault.specs.declared.Damage.TheVariants as damage
 use Rattle.fault.specs.declared.Fault.{Fault}
 use Rattle.device.specs.declared.Entry.{Entry}
 use Rattle.device.specs.declared.Entry.TheVariants.{Bytes, Unreadable}
-use Rattle.bytes.specs.Numbers.{number_at}
-use Rattle.bytes.specs.Zeros.{every, blank}
+use Rattle.octets.specs.Numbers.{number_at}
+use Rattle.octets.specs.Zeros.{every, blank}
 use Rattle.pairing.specs.Reservoir.{Slot, Reservoir}
 use Rattle.pairing.specs.declared.counts.Counts.{Counts}
 use Rattle.layout.specs.Layout.{mark, joined}

@@ -4,7 +4,7 @@ ghost use Rattle.layout.specs.Edits.{with_part};
 ghost use Rattle.layout.specs.Layout.{stock_block};
 ghost use Rattle.layout.specs.Reading.{in_set, ones_in};
 
-use bytes::put;
+use octets::put;
 
 // A set of pack numbers, one bit each: number p is bit p mod 8 of byte p / 8.
 #[derive(Clone, Copy)]

@@ -2,7 +2,7 @@
 ghost use Rattle.std.specs.Prelude.{◌≡◌, ◌*◌, ◌%◌, take, drop};
 ghost use Rattle.pairing.specs.Reservoir.{Slot};
 ghost use Rattle.layout.specs.Layout.{slot_bytes, with_slot};
-ghost use Rattle.bytes.specs.Numbers.{number_at};
+ghost use Rattle.octets.specs.Numbers.{number_at};
 ghost use Rattle.layout.specs.Reading.{unless_fault, in_set, used_fault, unused_fault};
 
 use crate::packs::PackSet;

@@ -4,7 +4,7 @@ use Rattle.std.proofs.Common.{◌≡◌, ℕ, zero, suc, ◌+◌, ◌-◌, ◌*�
 use lib.ListN.{replicate-append-replicate}
 use Rattle.std.specs.List.{range_with_len}
 use Rattle.std.proofs.lemmas.Bool.{cond-false, cond_both, ne_eqb}
-use Rattle.bytes.specs.Zeros.{zeros}
+use Rattle.octets.specs.Zeros.{zeros}
 use Rattle.pairing.specs.Ranges.{no_counts}
 use Rattle.pairing.specs.Reservoir.{empty}
 use Rattle.layout.specs.Layout.{head_of, packed, stock_byte, stock_block, joined, slot_block, content}

@@ -8,7 +8,7 @@ use Rattle.fault.specs.declared.Fault.{Fault}
 use Rattle.device.specs.declared.Entry.{Entry}
 use Rattle.device.specs.declared.Entry.TheVariants as entry
 use Rattle.device.specs.Disk.{Disk, entry_at}
-use Rattle.bytes.specs.Zeros.{zeros}
+use Rattle.octets.specs.Zeros.{zeros}
 use Rattle.pairing.specs.Ranges.{no_counts}
 use Rattle.pairing.specs.Reservoir.{empty}
 use Rattle.pairing.proofs.Lawfulness.{empty_lawful}

@@ -4,7 +4,7 @@ use Rattle.std.proofs.Common.{◌≡◌, ℕ, ◌+◌, ◌-◌, ◌<◌, ◌≤�
 use Rattle.std.proofs.lemmas.Bool.{and_from, eq-eqb}
 use Rattle.fault.specs.declared.Fault.{Fault}
 use Rattle.device.specs.Disk.{Disk, blocks, Event}
-use Rattle.bytes.specs.Zeros.{every}
+use Rattle.octets.specs.Zeros.{every}
 use Rattle.words.specs.declared.draws.Drawn.{Drawn}
 use Rattle.pairing.specs.Reservoir.{Slot, Reservoir, store, taken, width, filled_by, slot_of}
 use Rattle.pairing.specs.Rules.{Lawful}

@@ -7,7 +7,7 @@ use Rattle.fault.specs.Refusals.{offline, too_few_blocks, not_register, number_t
 use Rattle.fault.specs.declared.Damage.TheVariants as damage
 use Rattle.fault.specs.declared.Fault.{Fault}
 use Rattle.device.specs.Disk.{Disk, blocks, entry_at}
-use Rattle.bytes.specs.Zeros.{zeros}
+use Rattle.octets.specs.Zeros.{zeros}
 use Rattle.words.specs.Draws.{draw_of}
 use Rattle.words.specs.declared.draws.Drawn.{Drawn}
 use Rattle.pairing.specs.Ranges.{no_counts}

@@ -7,7 +7,7 @@ use Rattle.fault.specs.declared.Fault.{Fault}
 use Rattle.device.specs.declared.Entry.{Entry}
 use Rattle.device.specs.declared.Entry.TheVariants.{Bytes, Unreadable}
 use Rattle.pairing.specs.Reservoir.{without}
-use Rattle.bytes.specs.Numbers.{number_at}
+use Rattle.octets.specs.Numbers.{number_at}
 use Rattle.layout.specs.Reading.{unless_fault, or_else, first_of, used_fault, unused_fault, slot_fault, slot_in, number_in, left_at, earlier, in_set, stock_in, bytes_of, block_fault, slots_fault, unless, readable}
 use Rattle.reader.specs.Reads.{Gathered, SlotsRead}
 use Rattle.reader.proofs.Rests.{no_fault, a_fault, err_not_ok, exit_is, Rest, rest_none, rest_more, rest_stops, rest_all}
@@ -208,9 +208,9 @@ module _ {X : Type 0} (reading : List ℕ → Option X) (view : ℕ → Entry) (
       and_true true = refl
       and_true false = refl
 
-  block_fault : (j : ℕ) → block_fault view (14 + j) ≡ None → slots_fault reading view k j ≡ first_of (slot_fault reading view k (14 + j)) (8 * j) 8
+  block_fault_lem : (j : ℕ) → block_fault view (14 + j) ≡ None → slots_fault reading view k j ≡ first_of (slot_fault reading view k (14 + j)) (8 * j) 8
   unfolding slots_fault
-  block_fault j e = ap (λ f. or_else f (first_of (slot_fault reading view k (14 + j)) (8 * j) 8)) e
+  block_fault_lem j e = ap (λ f. or_else f (first_of (slot_fault reading view k (14 + j)) (8 * j) 8)) e
 
   block_lost : (j : ℕ) (x : Fault) → block_fault view (14 + j) ≡ Some x → slots_fault reading view k j ≡ Some x
   unfolding slots_fault
@@ -220,7 +220,7 @@ module _ {X : Type 0} (reading : List ℕ → Option X) (view : ℕ → Entry) (
       (j : ℕ) (s s' : Sampled) → j < 64 → BlocksSoFar j s → block_fault view (14 + j) ≡ None →
       SlotsRead view k (8 * j + 8) (first_of (slot_fault reading view k (14 + j)) (8 * j) 8) (Ok tt) s' → BlocksSoFar (j + 1) s'
   blocks_more j s s' h so e r = record {
-    rest = rest_more (slots_fault reading view k) 0 64 j h so.rest (ap (slots_fault reading view k) (from_zero j) ∙ block_fault j e ∙ (no_fault _ tt tt r.answer).0);
+    rest = rest_more (slots_fault reading view k) 0 64 j h so.rest (ap (slots_fault reading view k) (from_zero j) ∙ block_fault_lem j e ∙ (no_fault _ tt tt r.answer).0);
     gathered = subst (λ m. Gathered view k m s') (omega arith) (r.gathered refl);
   }
 
@@ -229,7 +229,7 @@ module _ {X : Type 0} (reading : List ℕ → Option X) (view : ℕ → Entry) (
       SlotsRead view k (8 * j + 8) (first_of (slot_fault reading view k (14 + j)) (8 * j) 8) (Err x) s' →
       first_of (slots_fault reading view k) 0 64 ≡ Some x
   blocks_stop j s s' x h so e r =
-      rest_stops (slots_fault reading view k) 0 64 j x h so.rest (ap (slots_fault reading view k) (from_zero j) ∙ block_fault j e ∙ a_fault _ tt x r.answer)
+      rest_stops (slots_fault reading view k) 0 64 j x h so.rest (ap (slots_fault reading view k) (from_zero j) ∙ block_fault_lem j e ∙ a_fault _ tt x r.answer)
 
   pub blocks_lost :
       (j : ℕ) (s : Sampled) (x : Fault) → j < 64 → BlocksSoFar j s →

@@ -3,7 +3,7 @@ use Rattle.std.proofs.Common.{◌≡◌, ℕ, ◌+◌, ◌*◌, ◌<◌, ltb, Li
 use Rattle.std.proofs.lemmas.Bool.{cond-true, lt-ltb}
 use Rattle.fault.specs.declared.Fault.{Fault}
 use Rattle.device.specs.declared.Entry.{Entry}
-use Rattle.bytes.specs.Edits.{written}
+use Rattle.octets.specs.Edits.{written}
 use Rattle.layout.specs.Edits.{with_part}
 use Rattle.layout.specs.Layout.{joined}
 use Rattle.layout.specs.Reading.{unless_fault, first_of, block_fault, bytes_of, stock_in}

@@ -21,8 +21,8 @@ module _ {X : Type 0} (code : ℕ) (reading : List ℕ → Option X) (view : ℕ
   abbrev counts : Counts
   counts = counts_in (bytes_of (view 0))
 
-  abbrev slots_fault : Option Fault
-  slots_fault = first_of (slots_fault reading view counts.sampled) 0 64
+  abbrev slots_fault_lem : Option Fault
+  slots_fault_lem = first_of (slots_fault reading view counts.sampled) 0 64
 
   abbrev stock_fault : Option Fault
   stock_fault = unless (eqb (ones_in (stock_in view)) counts.size) 6 damage.Disagreement
@@ -30,7 +30,7 @@ module _ {X : Type 0} (code : ℕ) (reading : List ℕ → Option X) (view : ℕ
   -- the faults in their order
   whole :
       {a b c d e : Option Fault} → block_fault view 0 ≡ a → head_fault code (bytes_of (view 0)) ≡ b → first_of (block_fault view) 6 8 ≡ c →
-      stock_fault ≡ d → slots_fault ≡ e → decode code reading view ≡ unless_fault (or_else a (or_else b (or_else c (or_else d e)))) (spelled reading view)
+      stock_fault ≡ d → slots_fault_lem ≡ e → decode code reading view ≡ unless_fault (or_else a (or_else b (or_else c (or_else d e)))) (spelled reading view)
   unfolding decode fault_in
   whole p q r s t = λ i. unless_fault (or_else (p i) (or_else (q i) (or_else (r i) (or_else (s i) (t i))))) (spelled reading view)
 

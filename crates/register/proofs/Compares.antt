@@ -98,8 +98,8 @@ module _ {X : Type 0} (f g : Found) {a b : Reservoir X} (finds : Finds f a) (oth
 -- ---- the refusals
 
 module _ {X : Type 0} {l r : Result (Reservoir X) Fault} {e : SideFault} {f : Fault} where
-  pub refused_left : e ≡ on_side Left f → l ≡ Err f → Compared l r (Err e)
-  refused_left is h = subst (λ e. Compared l r (Err e)) (sym is) (refused_left h)
+  pub refused_left_lem : e ≡ on_side Left f → l ≡ Err f → Compared l r (Err e)
+  refused_left_lem is h = subst (λ e. Compared l r (Err e)) (sym is) (refused_left h)
 
-  pub refused_right : {a : Reservoir X} → e ≡ on_side Right f → l ≡ Ok a → r ≡ Err f → Compared l r (Err e)
-  refused_right is h k = subst (λ e. Compared l r (Err e)) (sym is) (refused_right h k)
+  pub refused_right_lem : {a : Reservoir X} → e ≡ on_side Right f → l ≡ Ok a → r ≡ Err f → Compared l r (Err e)
+  refused_right_lem is h k = subst (λ e. Compared l r (Err e)) (sym is) (refused_right h k)

@@ -5,7 +5,7 @@ use Rattle.std.proofs.lemmas.Bool.{ltb-false}
 use Rattle.fault.specs.Refusals.{offline, too_few_blocks}
 use Rattle.fault.specs.declared.Fault.{Fault}
 use Rattle.device.specs.Disk.{Disk, blocks, entry_at}
-use Rattle.bytes.specs.Zeros.{every}
+use Rattle.octets.specs.Zeros.{every}
 use Rattle.pairing.specs.Reservoir.{Reservoir}
 use Rattle.journal.specs.Header.{header_of, free_or_refused}
 use Rattle.layout.specs.Laws.{Storable, ReadsExactly}

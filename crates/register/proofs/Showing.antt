@@ -5,9 +5,9 @@ use Rattle.std.proofs.lemmas.List.{take_at, drop_at, drop-drop}
 use Rattle.fault.specs.Refusals.{too_short}
 use Rattle.fault.specs.declared.Fault.{Fault}
 use Rattle.device.specs.Disk.{Disk}
-use Rattle.bytes.specs.Edits.{written, placed}
-use Rattle.bytes.specs.Zeros.{every}
-use Rattle.bytes.proofs.Edits.{placed_fits}
+use Rattle.octets.specs.Edits.{written, placed}
+use Rattle.octets.specs.Zeros.{every}
+use Rattle.octets.proofs.Edits.{placed_fits}
 use Rattle.pairing.specs.Reservoir.{Reservoir}
 use Rattle.pairing.specs.Steps.{counts_of}
 use Rattle.pairing.specs.declared.counts.Counts.{Counts}
@@ -17,7 +17,7 @@ use Rattle.layout.proofs.Blocks.{block_length, joined_push}
 use Rattle.plans.specs.Plans.{refused_if, at_rest, reporting, reported}
 use Rattle.plans.proofs.Contents.{content_is_block}
 use Rattle.register.specs.Reports.{Shown, refused, shown}
-use Rattle.register.proofs.Checks.{Answers, one_lost, one_passed}
+use Rattle.register.proofs.Checks.{Answers, one_lost_lem, one_passed}
 
 -- the j-th block of slots
 pub block_laid : (j : ℕ) → j < 64 → Laid (14 + j)
@@ -87,7 +87,7 @@ module _ {X : Type 0} (code : ℕ) (form : X → List ℕ) (reading : List ℕ �
   left_as_it_was r x h e = subst (λ r. Shown code form reading d page r page) (sym (exit_is h)) (refused e)
 
   pub too_short_lem : (r : Result Counts Fault) (x : Fault) → IsErrAnd r (λ y. y ≡ x) → Answers (Err x) checked → Shown code form reading d page r page
-  too_short_lem r x h e = left_as_it_was r x h (one_lost (ltb (length page) 32768) too_short x (at_rest code reading d) e)
+  too_short_lem r x h e = left_as_it_was r x h (one_lost_lem (ltb (length page) 32768) too_short x (at_rest code reading d) e)
 
   module _ (u : Unit {0}) (long : Answers (Ok u) checked) where
     read_first : reporting code reading d page ≡ at_rest code reading d

@@ -21,9 +21,9 @@ abbrev place_of : Option ℕ → ℕ
 place_of (Some i) = i / 8
 place_of None = 0
 
-store_block : (slot : Option ℕ) → store_block slot ≡ 14 + place_of slot
-store_block (Some i) = refl
-store_block None = refl
+store_block_lem : (slot : Option ℕ) → store_block slot ≡ 14 + place_of slot
+store_block_lem (Some i) = refl
+store_block_lem None = refl
 
 place_low :
     {X : Type 0} (slots : List (Slot X)) (m n c1 c2 d : ℕ) {w : ℕ} {e : Effect} → Way m n c1 c2 d w e → m ≤ 512 →
@@ -40,10 +40,10 @@ filled_low r l drawn =
     (way r.capacity r.size r.c1 r.c2 drawn.value) l.ranges.limits.1 l.ranges.balance
 
 pub store_block_low : {X : Type 0} (r : Reservoir X) → Lawful r → (drawn : Drawn) → store_block (filled_slot r drawn) < 78
-store_block_low r l drawn = omega (arith, store_block (filled_slot r drawn), filled_low r l drawn)
+store_block_low r l drawn = omega (arith, store_block_lem (filled_slot r drawn), filled_low r l drawn)
 
 pub store_block_high : (slot : Option ℕ) → 14 ≤ store_block slot
-store_block_high slot = omega (arith, store_block slot)
+store_block_high slot = omega (arith, store_block_lem slot)
 
 module _ {X : Type 0} (code : ℕ) (form : X → List ℕ) where
   -- the bytes of each block
@@ -66,10 +66,10 @@ module _ {X : Type 0} (code : ℕ) (form : X → List ℕ) where
   unfolding store
   stock_of r number item draw used = refl
 
-  pub stock_after :
+  pub stock_after_lem :
       (r : Reservoir X) (number : ℕ) (item : X) (draw used : ℕ) → number < 32768 →
       stock_block (with r.stock number) (number / 4096) ≡ content code form (store r number item draw used) (stock_block_of number)
-  stock_after r number item draw used low =
+  stock_after_lem r number item draw used low =
       sym
       (ap bytes_of ((parts (store r number item draw used)).stock (number / 4096) (omega arith))
       ∙ ap (λ s. stock_block s (number / 4096)) (stock_of r number item draw used))
@@ -93,21 +93,21 @@ module _ {X : Type 0} (code : ℕ) (form : X → List ℕ) where
     unfolding store
     slots_of r number item draw used = refl
 
-    pub slots_after :
+    pub slots_after_lem :
         (r : Reservoir X) → Lawful r → (number : ℕ) (item : X) (drawn : Drawn) →
         slotted (content code form r (store_block (filled_slot r drawn))) (filled_slot r drawn)
         (slot_bytes form (record { number = number; item = item }))
         ≡ content code form (store r number item drawn.value drawn.used) (store_block (filled_slot r drawn))
-    slots_after r l number item drawn =
+    slots_after_lem r l number item drawn =
         let o = filled_slot r drawn in
         let x : Slot X = record { number = number; item = item } in
         let next = store r number item drawn.value drawn.used in
         let low = filled_low r l drawn in
-        ap (λ b. slotted (content code form r b) o (slot_bytes form x)) (store_block o)
+        ap (λ b. slotted (content code form r b) o (slot_bytes form x)) (store_block_lem o)
         ∙ ap (λ xs. slotted xs o (slot_bytes form x)) (slots_are r (place_of o) low)
         ∙ sym
         (placed_changed r.slots x r.capacity r.size r.c1 r.c2 drawn.value
         (way r.capacity r.size r.c1 r.c2 drawn.value) l.ranges.balance)
         ∙ ap (λ s. slot_block form s (place_of o)) (sym (slots_of r number item drawn.value drawn.used))
         ∙ sym (slots_are next (place_of o) low)
-        ∙ ap (content code form next) (sym (store_block o))
+        ∙ ap (content code form next) (sym (store_block_lem o))

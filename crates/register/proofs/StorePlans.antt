@@ -12,7 +12,7 @@ use Rattle.plans.specs.Plans.{Plan, StoreAnswer, and_then, refused_if, at_rest, 
 use Rattle.reader.specs.Reads.{Finds}
 use Rattle.reader.specs.declared.Found.{Found}
 use Rattle.register.specs.Stores.{Accepts, drawn_plan}
-use Rattle.register.proofs.Checks.{Answers, one_lost, one_passed, two_lost, two_passed}
+use Rattle.register.proofs.Checks.{Answers, one_lost_lem, one_passed, two_lost, two_passed}
 
 module _ {X : Type 0} (code : ℕ) (form : X → List ℕ) (read : List ℕ → Option X) (d : Disk) (number : ℕ) (item : X)
     (words : ℕ → Option ℕ) where
@@ -38,7 +38,7 @@ module _ {X : Type 0} (code : ℕ) (form : X → List ℕ) (read : List ℕ → 
   sized = refused_if (ltb 32767 number) number_too_large (Ok tt)
 
   pub large_refused : (y : Fault) → Answers (Err y) sized → plan ≡ Err y
-  large_refused y e = tests refl refl ∙ one_lost (ltb 32767 number) number_too_large y _ e
+  large_refused y e = tests refl refl ∙ one_lost_lem (ltb 32767 number) number_too_large y _ e
 
   module _ (u : Unit {0}) (small : Answers (Ok u) sized) where
     low : ltb 32767 number ≡ false
@@ -66,8 +66,8 @@ module _ {X : Type 0} (code : ℕ) (form : X → List ℕ) (read : List ℕ → 
         both : (eqb f.counters.counts.calls 4294967295 ≡ false) × (in_set f.stock.bytes number ≡ false)
         both = two_passed (eqb f.counters.counts.calls 4294967295) (in_set f.stock.bytes number) last_call in_stock v passed
 
-        pub goes_on : plan ≡ rest r
-        goes_on = later ∙ (λ i. refused_if (both.0 i) last_call (refused_if (both.1 i) in_stock (rest r)))
+        pub goes_on_lem : plan ≡ rest r
+        goes_on_lem = later ∙ (λ i. refused_if (both.0 i) last_call (refused_if (both.1 i) in_stock (rest r)))
 
         pub accepts : Storable r → Accepts r number
         accepts storable = record {

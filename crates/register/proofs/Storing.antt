@@ -4,7 +4,7 @@ use Rattle.std.proofs.Common.{◌≡◌, ℕ, ◌/◌, ◌<◌, ◌≤◌, true,
 use Rattle.fault.specs.declared.Fault.{Fault}
 use Rattle.device.specs.Disk.{Disk, entry_at}
 use Rattle.device.specs.declared.Entry.TheVariants.{Bytes}
-use Rattle.bytes.specs.Zeros.{every}
+use Rattle.octets.specs.Zeros.{every}
 use Rattle.words.specs.declared.draws.Drawn.{Drawn}
 use Rattle.pairing.specs.Reservoir.{Reservoir, store, width, with}
 use Rattle.pairing.specs.Steps.{counts_of, width_at, filled_at, after_store, CanCall}
@@ -27,7 +27,7 @@ use Rattle.reader.specs.Reads.{Steady, Finds}
 use Rattle.reader.specs.declared.Found.{Found}
 use Rattle.register.specs.Rested.{Rested}
 use Rattle.register.specs.Stores.{slotted, draw_at, Stepped, Accepts, drawn_plan}
-use Rattle.register.proofs.StoreContents.{store_block_low, store_block_high, head_after, stock_after, slots_after}
+use Rattle.register.proofs.StoreContents.{store_block_low, store_block_high, head_after, stock_after_lem, slots_after_lem}
 
 some_width : {m n c1 c2 d w : ℕ} {e : Effect} → Way m n c1 c2 d w e → 0 < w
 some_width (pairs_in some low) = some
@@ -87,7 +87,7 @@ module _ {X : Type 0} (code : ℕ) (form : X → List ℕ) (d : Disk) (f : Found
         ∙ (λ i.
         unless_fault (none i)
         (write_at target (slotted (bytes_of (there i)) (filled_slot r drawn) (slot_bytes form (record { number = number; item = item })))))
-        ∙ ap (λ xs. Ok (write_at target xs)) (slots_after code form sized r lawful number item drawn)
+        ∙ ap (λ xs. Ok (write_at target xs)) (slots_after_lem code form sized r lawful number item drawn)
 
     -- the plan, where these are the step, the answer, the header and the changes
     pub planned :
@@ -116,7 +116,7 @@ module _ {X : Type 0} (code : ℕ) (form : X → List ℕ) (d : Disk) (f : Found
         let stock : content code form next (stock_block_of number) ≡ stock_block (with (in_set f.stock.bytes) number) (number / 4096) =
         sym (
         ap (λ z. stock_block (with z number) (number / 4096)) (λ i p. finds.stock p i)
-        ∙ stock_after code form r number item drawn.value drawn.used accepts.low) in
+        ∙ stock_after_lem code form r number item drawn.value drawn.used accepts.low) in
         let head : content code form next 0 ≡ head_of code after = sym (head_after code form r number item drawn) ∙ ap (head_of code) to in
         ap (λ z. and_then z (λ x. Ok (storing code form r number item x))) (ap (draw_at words) (sym same) ∙ step.draws)
         ∙ (λ i. Ok (record {

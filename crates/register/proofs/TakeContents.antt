@@ -2,7 +2,7 @@
 -- Assumes nothing.
 use Rattle.std.proofs.Common.{◌≡◌, ℕ, ◌+◌, ◌*◌, ◌/◌, ◌%◌, ◌<◌, Bool, eqb, ltb, ◌≢◌, List, [], ◌∷◌, length, get_or, take, drop, set, Some, None, Option, sym, refl, ap, ◌∙◌, ⊎_elim, arith}
 use Rattle.std.proofs.lemmas.Bool.{cond-true, cond-false, eq-eqb, ne_eqb, lt-ltb, le-ltb, cases_eq}
-use Rattle.bytes.specs.Zeros.{zeros}
+use Rattle.octets.specs.Zeros.{zeros}
 use Rattle.pairing.specs.Reservoir.{Slot, Reservoir, taken, slot_of, slots_after, freed, without}
 use Rattle.pairing.specs.Steps.{counts_of}
 use Rattle.pairing.proofs.Slots.{Found, there, nowhere, search_found}
@@ -73,13 +73,13 @@ module _ {X : Type 0} (code : ℕ) (form : X → List ℕ) (r : Reservoir X) whe
 
 -- ---- after a take
 
-slots_after : {X : Type 0} (r : Reservoir X) (number : ℕ) (o : Option ℕ) → slot_of r.slots number ≡ o → (taken r number).slots ≡ slots_after r.slots o
+slots_after_lem : {X : Type 0} (r : Reservoir X) (number : ℕ) (o : Option ℕ) → slot_of r.slots number ≡ o → (taken r number).slots ≡ slots_after r.slots o
 unfolding taken
-slots_after r number o e = ap (slots_after r.slots) e
+slots_after_lem r number o e = ap (slots_after r.slots) e
 
-stock_after : {X : Type 0} (r : Reservoir X) (number : ℕ) → (taken r number).stock ≡ without r.stock number
+stock_after_lem : {X : Type 0} (r : Reservoir X) (number : ℕ) → (taken r number).stock ≡ without r.stock number
 unfolding taken
-stock_after r number = refl
+stock_after_lem r number = refl
 
 found_inside : {X : Type 0} (slots : List (Slot X)) (p h : ℕ) {o : Option ℕ} → Found slots p o → o ≡ Some h → h < length slots
 found_inside slots p h (there i inside is) e = let same : i ≡ h = cc in omega arith
@@ -96,7 +96,7 @@ module _ {X : Type 0} (code : ℕ) (form : X → List ℕ) (sized : (x : X) → 
   content_freed h last bytes f j =
       (λ i. changed_in (changed_in (content_slots code form r j i) j h (f.moved i)) j last (zeros 64))
       ∙ sym (freed_block form sized r.slots h last (slot_inside r.slots number h f.slot) f.count j)
-      ∙ ap (λ s. slot_block form s j) (sym (slots_after r number (Some h) f.slot))
+      ∙ ap (λ s. slot_block form s j) (sym (slots_after_lem r number (Some h) f.slot))
       ∙ sym (content_slots code form (taken r number) j)
 
   pub bytes_freed :
@@ -110,7 +110,7 @@ module _ {X : Type 0} (code : ℕ) (form : X → List ℕ) (sized : (x : X) → 
       slot_of r.slots number ≡ None → (j : ℕ) → content code form r (14 + j) ≡ content code form (taken r number) (14 + j)
   content_kept e j =
       content_slots code form r j
-      ∙ ap (λ s. slot_block form s j) (sym (slots_after r number None e))
+      ∙ ap (λ s. slot_block form s j) (sym (slots_after_lem r number None e))
       ∙ sym (content_slots code form (taken r number) j)
 
   -- the bytes of a slot, cut out of its block
@@ -132,5 +132,5 @@ module _ {X : Type 0} (code : ℕ) (form : X → List ℕ) (sized : (x : X) → 
       stock_block set (number / 4096) ≡ content code form (taken r number) (stock_block_of number)
   content_without set low same =
       (λ i. stock_block (λ p. same p i) (number / 4096))
-      ∙ ap (λ s. stock_block s (number / 4096)) (sym (stock_after r number))
+      ∙ ap (λ s. stock_block s (number / 4096)) (sym (stock_after_lem r number))
       ∙ sym (content_stock code form (taken r number) number low)

@@ -12,7 +12,7 @@ use Rattle.plans.specs.Plans.{Plan, TakeAnswer, and_then, refused_if, at_rest, t
 use Rattle.reader.specs.Reads.{Finds}
 use Rattle.reader.specs.declared.Found.{Found}
 use Rattle.register.specs.Takes.{take_checks, Allowed}
-use Rattle.register.proofs.Checks.{Answers, one_lost, one_passed, two_lost, two_passed}
+use Rattle.register.proofs.Checks.{Answers, one_lost_lem, one_passed, two_lost, two_passed}
 
 module _ {X : Type 0} (code : ℕ) (form : X → List ℕ) (read : List ℕ → Option X) (d : Disk) (number : ℕ) where
   abbrev plan : Result (Plan TakeAnswer) Fault
@@ -34,7 +34,7 @@ module _ {X : Type 0} (code : ℕ) (form : X → List ℕ) (read : List ℕ → 
   sized = refused_if (ltb 32767 number) number_too_large (Ok tt)
 
   pub large_refused : (y : Fault) → Answers (Err y) sized → plan ≡ Err y
-  large_refused y e = tests refl refl ∙ one_lost (ltb 32767 number) number_too_large y _ e
+  large_refused y e = tests refl refl ∙ one_lost_lem (ltb 32767 number) number_too_large y _ e
 
   module _ (u : Unit {0}) (small : Answers (Ok u) sized) where
     low : ltb 32767 number ≡ false
@@ -64,8 +64,8 @@ module _ {X : Type 0} (code : ℕ) (form : X → List ℕ) (read : List ℕ → 
         both : (last ≡ false) × (not inside ≡ false)
         both = two_passed last (not inside) last_call not_in_stock v passed
 
-        pub goes_on : plan ≡ Ok (taking code form r number)
-        goes_on = later ∙ (λ i. refused_if (both.0 i) last_call (refused_if (both.1 i) not_in_stock (Ok (taking code form r number))))
+        pub goes_on_lem : plan ≡ Ok (taking code form r number)
+        goes_on_lem = later ∙ (λ i. refused_if (both.0 i) last_call (refused_if (both.1 i) not_in_stock (Ok (taking code form r number))))
 
         pub allowed : Storable r → Allowed r number
         allowed storable = record {

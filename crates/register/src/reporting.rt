@@ -9,10 +9,10 @@ ghost use Rattle.register.specs.Rested.{Rested};
 
 use crate::blocks::read_block;
 use crate::commits::SLOTS;
-use bytes::put;
 use device::Device;
 use fault::Fault;
 use items::Kind;
+use octets::put;
 use pairing::Counts;
 use reader::read_at_rest;
 

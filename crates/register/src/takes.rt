@@ -1,7 +1,7 @@
 // Take: a pack leaves the stock, and the sample if it is there.
 ghost use Rattle.std.specs.Prelude.{◌≡◌, ℕ, ◌+◌, ◌-◌, ◌/◌, ◌<◌, ◌≤◌, length, take, is_some, Some, None, Ok};
 ghost use Rattle.std.specs.Option.{SomeIff, option_map};
-ghost use Rattle.bytes.specs.Zeros.{zeros};
+ghost use Rattle.octets.specs.Zeros.{zeros};
 ghost use Rattle.pairing.specs.Reservoir.{Reservoir, taken, slot_of, without};
 ghost use Rattle.pairing.specs.Rules.{CanTake, after_take};
 ghost use Rattle.journal.specs.Writes.{write_at};

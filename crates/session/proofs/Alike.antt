@@ -20,7 +20,7 @@ use Rattle.session.specs.Steps.{Outcome, refused, store_done, store_lost, take_d
 use Rattle.session.proofs.CallHeaders.{owed_after, call_owed}
 use Rattle.session.proofs.Committed.{Storing, storing, Taking, taking}
 use Rattle.session.proofs.HeaderLeft.{online_after, call_online, owed_at}
-use Rattle.session.proofs.Moves.{Kept, kept_taken, draw_at, store_kept, store_words, taken_words}
+use Rattle.session.proofs.Moves.{Kept, kept_taken, draw_at_lem, store_kept, store_words, taken_words}
 use Rattle.session.proofs.PlannedRuns.{writes_after, tries_after, plan_front, plan_behind}
 use Rattle.session.proofs.Tapes.{Tape, Draws, sure, word, missing}
 use Rattle.session.proofs.Tries.{unless_refused, query, Tries, tries, tries_alike}
@@ -109,7 +109,7 @@ module _ {X : Type 0} {t m : ℕ} {words words' : ℕ → Option ℕ} (tape : Ta
       {number : ℕ} → number < 32768 → s.stock number ≡ false → {o : Option Drawn} → draw_of words' (width s) s.words ≡ o →
       Draws t (width_of m pair.size pair.due 0) r.words words' o
   second_draws low out {o} is =
-      subst (λ k. Draws t (width_of m pair.size pair.due 0) k words' o) (sym pair.words) (draw_at tape' pair.second low out is)
+      subst (λ k. Draws t (width_of m pair.size pair.due 0) k words' o) (sym pair.words) (draw_at_lem tape' pair.second low out is)
 
   store_refusal : (z : Status) (number : ℕ) (item : X) → refusal z r 0 (Store number item words) ≡ refusal z s 0 (Store number item words')
   store_refusal z number item =
@@ -117,7 +117,7 @@ module _ {X : Type 0} {t m : ℕ} {words words' : ℕ → Option ℕ} (tape : Ta
       (undrawn (draw_of words' (width s) s.words))
       (λ a c.
       let low : number < 32768 = omega (arith, ltb-false 32767 number a) in
-      undrawn_alike (draw_at tape pair.first low c refl) (second_draws low (second_out c) refl))
+      undrawn_alike (draw_at_lem tape pair.first low c refl) (second_draws low (second_out c) refl))
       ∙ (λ i. gate (ltb 32767 number) z (eqb (pair.calls i) 4294967295) (stocks i number) (undrawn (draw_of words' (width s) s.words)))
 
   take_refusal : (z : Status) (number : ℕ) → refusal z r 0 (Take number) ≡ refusal z s 0 (Take number)
@@ -144,7 +144,7 @@ module _ {X : Type 0} {t m : ℕ} {words words' : ℕ → Option ℕ} (tape : Ta
   pair_store number item f g =
       let x = f.drawn in
       let y = g.drawn in
-      let used : x.used ≡ y.used = used_alike (draw_at tape pair.first f.low f.out f.is) (second_draws g.low g.out g.is) in
+      let used : x.used ≡ y.used = used_alike (draw_at_lem tape pair.first f.low f.out f.is) (second_draws g.low g.out g.is) in
       let after : Pair m (pairing.store r number item x.value x.used) (pairing.store s number item y.value y.used) = record {
         size = pair.size + 1;
         due = pair.due - 1;

@@ -78,8 +78,8 @@ module _ {X : Type 0} (own : Kind X) (d : Disk) (r : Reservoir X) where
   -- what became of such a call
   pub data Became {A : Type 0} (refusal : Option Fault) (Fits : A → Type 0) : Result A Fault → List Event → Disk → Type 0 where
     not_tried : {f : Fault} → refusal ≡ Some f → Became refusal Fits (Err f) [] d
-    all_done : {a : A} {es : List Event} {d' : Disk} → refusal ≡ None → Fits a → Asked 10 d' es false → Became refusal Fits (Ok a) es d'
-    one_lost : {b : ℕ} {es : List Event} {d' : Disk} → refusal ≡ None → Asked 10 d' es true → Became refusal Fits (Err (offline b)) es d'
+    all_done_lem : {a : A} {es : List Event} {d' : Disk} → refusal ≡ None → Fits a → Asked 10 d' es false → Became refusal Fits (Ok a) es d'
+    one_lost_lem : {b : ℕ} {es : List Event} {d' : Disk} → refusal ≡ None → Asked 10 d' es true → Became refusal Fits (Err (offline b)) es d'
 
   module _ (keeps : Keeps own d r) {A : Type 0} {next : Reservoir X} {Fits : A → Type 0} where
     -- the register stands after it
@@ -105,9 +105,9 @@ module _ {X : Type 0} (own : Kind X) (d : Disk) (r : Reservoir X) where
     became (yes p f k c) (done {p = q} e run) =
         let is : p ≡ q = ok_same (sym k ∙ e) in
         let w : Commits next Fits q = subst (Commits next Fits) is c in
-        (all_done f w.fits (asked_done 10 w.long run), stands_after w run)
+        (all_done_lem f w.fits (asked_done 10 w.long run), stands_after w run)
     became {refusal = refusal} {es = es} {d' = d'} (yes p f k c) (interrupted {p = q} {f = x} e run) =
         let is : p ≡ q = ok_same (sym k ∙ e) in
         let w : Commits next Fits q = subst (Commits next Fits) is c in
         let m = asked_lost 10 w.long w.inside w.online run in
-        (subst (λ x. Became refusal Fits (Err x) es d') (sym m.answer) (one_lost f m.asked), stands_after w run)
+        (subst (λ x. Became refusal Fits (Err x) es d') (sym m.answer) (one_lost_lem f m.asked), stands_after w run)

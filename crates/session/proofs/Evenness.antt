@@ -4,7 +4,7 @@ use Rattle.std.proofs.Common.{◌≡◌, ℕ, ◌≤◌, Bool, ltb, List, [], �
 use Rattle.std.specs.List.{AllByRecursion as All}
 use Rattle.std.proofs.lemmas.Bool.{cond_both}
 use Rattle.device.specs.Disk.{Disk}
-use Rattle.bytes.specs.Zeros.{zeros}
+use Rattle.octets.specs.Zeros.{zeros}
 use Rattle.pairing.specs.Reservoir.{Reservoir, empty}
 use Rattle.fairness.specs.Histories as history
 use Rattle.fairness.specs.Histories.{draw_lists, count, widths, run}

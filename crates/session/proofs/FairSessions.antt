@@ -2,7 +2,7 @@
 -- Assumes nothing.
 use Rattle.std.proofs.Common.{◌≡◌, ℕ, List, [], ◌∷◌, ◌++◌, sym, refl, ap}
 use Rattle.device.specs.Disk.{Disk, Event}
-use Rattle.bytes.specs.Zeros.{zeros}
+use Rattle.octets.specs.Zeros.{zeros}
 use Rattle.pairing.specs.Reservoir.{Reservoir, empty}
 use Rattle.fairness.specs.Histories.{widths}
 use Rattle.fairness.specs.Laws as fairness

@@ -100,17 +100,17 @@ module _ {n w k : ℕ} {words : ℕ → Option ℕ} where
 
 module _ {X : Type 0} {t : ℕ} {words : ℕ → Option ℕ} (tape : Tape t words) where
   -- the draw of a Store
-  pub draw_at :
+  pub draw_at_lem :
       {m n d : ℕ} {st : ℕ → Bool} {r : Reservoir X} → Kept m n d st r → {p : ℕ} → p < 32768 → r.stock p ≡ false → {o : Option Drawn} →
       draw_of words (width r) r.words ≡ o → Draws t (width_of m n d 0) r.words words o
-  draw_at {m} {n} {d} {st} {r} k low out {o} is =
+  draw_at_lem {m} {n} {d} {st} {r} k low out {o} is =
       draws tape (width_of m n d 0) r.words (width_least m n d) (width_most k low out) (ap (λ w. draw_of words w r.words) (sym (kept_width k)) ∙ is)
 
   pub store_kept :
       {m n d : ℕ} {st : ℕ → Bool} {r : Reservoir X} → Kept m n d st r → {p : ℕ} → p < 32768 → r.stock p ≡ false → {drawn : Drawn} →
       draw_of words (width r) r.words ≡ Some drawn → (item : X) → Kept m (n + 1) (d - 1) (with st p) (store r p item drawn.value drawn.used)
   store_kept k low out {drawn} is item =
-      kept_store k low out item drawn.value drawn.used (subst (λ w. drawn.value < w) (sym (kept_width k)) (drawn_below (draw_at k low out is)))
+      kept_store k low out item drawn.value drawn.used (subst (λ w. drawn.value < w) (sym (kept_width k)) (drawn_below (draw_at_lem k low out is)))
 
   pub bounded :
       {r r' : Reservoir X} {h : List (Call X)} → Moves words r h r' → {m n d : ℕ} {st : ℕ → Bool} → Kept m n d st r →
@@ -123,7 +123,7 @@ module _ {X : Type 0} {t : ℕ} {words : ℕ → Option ℕ} (tape : Tape t word
         least = (width_least m n d, b.least);
         most = (width_most k low out, b.most);
         few =
-            few_more (draw_at k low out is) (widths m (n + 1) (d - 1) h)
+            few_more (draw_at_lem k low out is) (widths m (n + 1) (d - 1) h)
             (subst (λ p. length (above_one (widths m (n + 1) (d - 1) h)) ≤ t - p) (store_words r number item drawn.value drawn.used) b.few);
       }
   bounded {r} (takes {h = h} {number = number} inside rest) {m} {n} {d} {st} k =
@@ -196,7 +196,7 @@ module _ {X : Type 0} {t : ℕ} {words : ℕ → Option ℕ} (tape : Tape t word
       run (unworded r) h (filled (widths m n d h) ds) ≡ unworded r'
   run_moves ends k ds below begins = refl
   run_moves {r} {r'} (stores {h = h} {number = number} {item = item} {drawn = drawn} low out is rest) {m} {n} {d} {st} k ds below begins =
-      run_store r r' number item h (width_of m n d 0) (widths m (n + 1) (d - 1) h) (draw_at tape k low out is)
+      run_store r r' number item h (width_of m n d 0) (widths m (n + 1) (d - 1) h) (draw_at_lem tape k low out is)
       (λ ds below begins.
       run_moves rest (store_kept tape k low out is item) ds below
       (subst (λ p. Begins words p ds) (sym (store_words r number item drawn.value drawn.used)) begins))

@@ -152,8 +152,8 @@ module _ {X Y : Type 0} (own : Kind X) (other : Kind Y) (laws : KindLaws own) (a
   report_alike =
       alike_as (ap (refused_if (ltb (length page) 32768) too_short) rest_other) (alike too_short (ltb (length page) 32768) (status_of d))
 
-  pub report_refused : (f : Fault) → reporting other d page ≡ Err f → Outcome {Y = Y} own d page r (Other Report) (Err f) [] d page
-  report_refused f e = refused_other (report_alike.told ∙ ap Some (err_same (sym report_alike.is ∙ e)))
+  pub report_refused_lem : (f : Fault) → reporting other d page ≡ Err f → Outcome {Y = Y} own d page r (Other Report) (Err f) [] d page
+  report_refused_lem f e = refused_other (report_alike.told ∙ ap Some (err_same (sym report_alike.is ∙ e)))
 
   pub report_never : (q : Reservoir Y) → reporting other d page ≡ Ok q → ⊥
   report_never q e = err_ok (sym report_alike.is ∙ e)

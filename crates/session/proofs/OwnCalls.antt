@@ -28,7 +28,7 @@ use Rattle.session.specs.Refused.{Status, down, busy, ready, status_of, fault_if
 use Rattle.session.specs.Runs.{Keeps, KindLaws}
 use Rattle.session.specs.Steps.{Outcome, refused, store_done, store_lost, take_done, take_lost, report_done, stored_by, store_reply, take_reply}
 use Rattle.session.specs.declared.Answer.TheVariants as answer
-use Rattle.session.proofs.Commits.{Told, no, yes, told_as, Commits, Became, not_tried, all_done, one_lost, became, ten_long, ten_inside}
+use Rattle.session.proofs.Commits.{Told, no, yes, told_as, Commits, Became, not_tried, all_done_lem, one_lost_lem, became, ten_long, ten_inside}
 use Rattle.session.proofs.Statuses.{rested_by, then_rested, ready_rests, recovery, at_rest_lem, err_same}
 
 -- ---- the limits that the refusals leave
@@ -70,11 +70,11 @@ module _ {X : Type 0} (own : Kind X) (laws : KindLaws own) (d : Disk) (r : Reser
         (refused_if (r.stock number) in_stock
         (and_then (ok_or (draw_of words (width r) r.words) no_draw) (λ drawn. Ok (storing own.code own.form r number item drawn))))
 
-    store_plan :
+    store_plan_lem :
         store_plan own.code own.form own.reading d number item words
         ≡ refused_if (ltb 32767 number) number_too_large (rested_by (status_of d) (store_from r))
     unfolding store_plan
-    store_plan =
+    store_plan_lem =
         ap (λ x. refused_if (ltb 32767 number) number_too_large (and_then x store_from)) (at_rest_lem own laws keeps)
         ∙ ap (refused_if (ltb 32767 number) number_too_large) (then_rested (status_of d) (Ok r) store_from)
 
@@ -121,16 +121,16 @@ module _ {X : Type 0} (own : Kind X) (laws : KindLaws own) (d : Disk) (r : Reser
         Became own d r (refusal (status_of d) r room (Store number item words)) StoreFits a es d'
         × Keeps own d' (cond (landed 5 es) (stored_by r number item draws) r)
     store_became room call =
-        became own d r keeps (told_as store_plan (store_told_by (ltb 32767 number) (status_of d) (eqb r.calls 4294967295) (r.stock number) draws refl refl refl refl refl)) call
+        became own d r keeps (told_as store_plan_lem (store_told_by (ltb 32767 number) (status_of d) (eqb r.calls 4294967295) (r.stock number) draws refl refl refl refl refl)) call
 
     store_outcome :
         {Y : Type 0} {a : Result StoreAnswer Fault} {es : List Event} {d' : Disk} (page : List ℕ) →
         Became own d r (refusal (status_of d) r (length page) (Store number item words)) StoreFits a es d' →
         Outcome {Y = Y} own d page r (Own (Store number item words)) (result_map_both stored (λ f. f) a) es d' page
     store_outcome page (not_tried f) = refused f
-    store_outcome {Y} page (all_done {a = a} {es = es} {d' = d'} f fits asked) =
+    store_outcome {Y} page (all_done_lem {a = a} {es = es} {d' = d'} f fits asked) =
         subst (λ x. Outcome {Y = Y} own d page r (Own (Store number item words)) (Ok x) es d' page) (sym fits.reply) (store_done f fits.is asked)
-    store_outcome page (one_lost f asked) = store_lost f asked
+    store_outcome page (one_lost_lem f asked) = store_lost f asked
 
     pub store_law :
         {Y : Type 0} {a : Result StoreAnswer Fault} {es : List Event} {d' : Disk} (page : List ℕ) →
@@ -150,11 +150,11 @@ module _ {X : Type 0} (own : Kind X) (laws : KindLaws own) (d : Disk) (r : Reser
         refused_if (eqb r.calls 4294967295) last_call
         (refused_if (not (r.stock number)) not_in_stock (Ok (taking own.code own.form r number)))
 
-    take_plan :
+    take_plan_lem :
         take_plan own.code own.form own.reading d number
         ≡ refused_if (ltb 32767 number) number_too_large (rested_by (status_of d) (take_from r))
     unfolding take_plan
-    take_plan =
+    take_plan_lem =
         ap (λ x. refused_if (ltb 32767 number) number_too_large (and_then x take_from)) (at_rest_lem own laws keeps)
         ∙ ap (refused_if (ltb 32767 number) number_too_large) (then_rested (status_of d) (Ok r) take_from)
 
@@ -196,9 +196,9 @@ module _ {X : Type 0} (own : Kind X) (laws : KindLaws own) (d : Disk) (r : Reser
         Became own d r (refusal (status_of d) r (length page) (Take number)) TakeFits a es d' →
         Outcome {Y = Y} own d page r (Own (Take number)) (result_map_both taken (λ f. f) a) es d' page
     take_outcome page (not_tried f) = refused f
-    take_outcome {Y} page (all_done {es = es} {d' = d'} f fits asked) =
+    take_outcome {Y} page (all_done_lem {es = es} {d' = d'} f fits asked) =
         subst (λ x. Outcome {Y = Y} own d page r (Own (Take number)) (Ok x) es d' page) (sym fits.reply) (take_done f asked)
-    take_outcome page (one_lost f asked) = take_lost f asked
+    take_outcome page (one_lost_lem f asked) = take_lost f asked
 
     pub take_law :
         {Y : Type 0} {a : Result TakeAnswer Fault} {es : List Event} {d' : Disk} (page : List ℕ) →
@@ -207,7 +207,7 @@ module _ {X : Type 0} (own : Kind X) (laws : KindLaws own) (d : Disk) (r : Reser
         × Keeps own d' (cond (landed 5 es) (pairing.taken r number) r)
     take_law page call =
         let told = take_told_by (ltb 32767 number) (status_of d) (eqb r.calls 4294967295) (r.stock number) refl refl refl refl in
-        let q = became own d r keeps (told_as take_plan told) call in
+        let q = became own d r keeps (told_as take_plan_lem told) call in
         (take_outcome page q.0, q.1)
 
   -- ---- Report
@@ -243,11 +243,11 @@ module _ {X : Type 0} (own : Kind X) (laws : KindLaws own) (d : Disk) (r : Reser
   done_by {Y} page x q (shown h) e =
       subst (λ q. Outcome {Y = Y} own d page r (Own Report) (Ok (answer.Reported (counts_of q))) [] d (reported own q page)) (ok_same e) (report_done h)
 
-  pub report_refused :
+  pub report_refused_lem :
       {Y : Type 0} (page : List ℕ) (f : Fault) → reporting own d page ≡ Err f → Outcome {Y = Y} own d page r (Own Report) (Err f) [] d page
-  report_refused page f e = refused_by page (reporting own d page) f (report_shown page) e
+  report_refused_lem page f e = refused_by page (reporting own d page) f (report_shown page) e
 
-  pub report_done :
+  pub report_done_lem :
       {Y : Type 0} (page : List ℕ) (q : Reservoir X) → reporting own d page ≡ Ok q →
       Outcome {Y = Y} own d page r (Own Report) (Ok (answer.Reported (counts_of q))) [] d (reported own q page)
-  report_done page q e = done_by page (reporting own d page) q (report_shown page) e
+  report_done_lem page q e = done_by page (reporting own d page) q (report_shown page) e

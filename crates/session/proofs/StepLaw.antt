@@ -7,7 +7,7 @@ use Rattle.session.specs.Calls.{Kind, Call, Reply, store_did, take_did, report_r
 use Rattle.session.specs.Runs.{Keeps, KindLaws}
 use Rattle.session.specs.Steps.{Outcome, Step, Steps, none, next, after}
 use Rattle.session.proofs.OtherKind as foreign
-use Rattle.session.proofs.OwnCalls.{store_law, take_law, report_refused, report_done}
+use Rattle.session.proofs.OwnCalls.{store_law, take_law, report_refused_lem, report_done_lem}
 use Rattle.session.proofs.OwnOpen.{open_law}
 
 module _ {X Y : Type 0} (own : Kind X) (other : Kind Y) where
@@ -17,8 +17,8 @@ module _ {X Y : Type 0} (own : Kind X) (other : Kind Y) where
         Outcome own d page r c a es d' page' × Keeps own d' (after c es r)
     outcome (for_own (store_did {number} {item} {words} call)) = store_law own laws d r keeps number item words page call
     outcome (for_own (take_did {number} call)) = take_law own laws d r keeps number page call
-    outcome (for_own (report_refused {f} e)) = (report_refused own laws d r keeps page f e, keeps)
-    outcome (for_own (report_did {r = q} e)) = (report_done own laws d r keeps page q e, keeps)
+    outcome (for_own (report_refused {f} e)) = (report_refused_lem own laws d r keeps page f e, keeps)
+    outcome (for_own (report_did {r = q} e)) = (report_done_lem own laws d r keeps page q e, keeps)
     outcome (for_own (open_did call)) = open_law own laws d r keeps page call
     outcome (for_other (store_did {number} {item} {words} call)) = foreign.store-law own other laws apart d r keeps page number item words call
     outcome (for_other (take_did {number} call)) = foreign.take-law own other laws apart d r keeps page number call

@@ -5,7 +5,7 @@ use lib.ListN.{length-replicate, get_or-replicate}
 use Rattle.std.specs.List.{AllByRecursion as All}
 use Rattle.std.proofs.lemmas.List.{get_or_append_left, get_or-append_right}
 use Rattle.std.proofs.lemmas.Bool.{cases_eq, cases_lt, cond-true, cond-false, lt-ltb, le-ltb}
-use Rattle.bytes.specs.Zeros.{zeros}
+use Rattle.octets.specs.Zeros.{zeros}
 use Rattle.words.specs.Draws.{limit, draw_of}
 use Rattle.words.specs.declared.draws.Drawn.{Drawn}
 use Rattle.words.proofs.Limits.{limit_largest}
@@ -56,14 +56,14 @@ module _ {n : ℕ} {words : ℕ → Option ℕ} (tape : Tape n words) (w k : ℕ
 abbrev pub Begins : (ℕ → Option ℕ) → ℕ → List ℕ → Type 0
 Begins words place ds = (i : ℕ) → i < length ds → words (place + i) ≡ Some (get_or ds i 0)
 
-tape_of : (n : ℕ) (words : List ℕ) → length words ≡ n → ((k : ℕ) → k < n → get_or words k 0 < 32768) → Tape n (words_of words)
-tape_of n words long small = record {
+tape_of_lem : (n : ℕ) (words : List ℕ) → length words ≡ n → ((k : ℕ) → k < n → get_or words k 0 < 32768) → Tape n (words_of words)
+tape_of_lem n words long small = record {
   word = λ k l. (get_or words k 0, cond-true (ltb k (length words)) _ _ (lt-ltb k (length words) (omega arith)), small k l);
   ends = λ k l. cond-false (ltb k (length words)) _ _ (le-ltb k (length words) (omega arith));
 }
 
 pub zeros_tape : (n : ℕ) → Tape n (words_of (zeros n))
-zeros_tape n = tape_of n (zeros n) (length-replicate {A = ℕ} n 0) (λ k l. omega (arith, get_or-replicate {A = ℕ} n k 0 0 l))
+zeros_tape n = tape_of_lem n (zeros n) (length-replicate {A = ℕ} n 0) (λ k l. omega (arith, get_or-replicate {A = ℕ} n k 0 0 l))
 
 below_long : {ws ds : List ℕ} → Below ws ds → length ds ≡ length ws
 below_long none = refl
@@ -91,7 +91,7 @@ module _ (n : ℕ) {ws ds : List ℕ} (below : Below ws ds) (most : All (λ w. w
       ]
 
   pub draws_tape : Tape n (words_of (tape_of n ds))
-  draws_tape = tape_of n (tape_of n ds) tape_long tape_small
+  draws_tape = tape_of_lem n (tape_of n ds) tape_long tape_small
 
   pub tape_begins : Begins (words_of (tape_of n ds)) 0 ds
   tape_begins i l =

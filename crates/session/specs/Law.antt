@@ -2,7 +2,7 @@
 -- Assumes nothing.
 use Rattle.std.specs.Prelude.{◌≡◌, ℕ, ◌+◌, ◌-◌, ◌<◌, ◌≤◌, Bool, true, cond, List, [], ◌∷◌, ◌++◌, map, length, Some, None, Ok, Option, nat_lt, slice_index}
 use Rattle.device.specs.Disk.{Disk, Event, blocks}
-use Rattle.bytes.specs.Zeros.{zeros}
+use Rattle.octets.specs.Zeros.{zeros}
 use Rattle.pairing.specs.Reservoir.{Reservoir, empty}
 use Rattle.fairness.specs.Histories as history
 use Rattle.fairness.specs.Histories.{draw_lists, count, widths}

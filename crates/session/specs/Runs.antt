@@ -4,7 +4,7 @@ use Rattle.std.specs.Prelude.{◌≡◌, ℕ, ◌<◌, ◌≤◌, true, ◌⊎�
 use Rattle.fault.specs.Refusals.{too_short}
 use Rattle.fault.specs.declared.Fault.{Fault}
 use Rattle.device.specs.Disk.{Disk, Event, blocks}
-use Rattle.bytes.specs.Zeros.{every}
+use Rattle.octets.specs.Zeros.{every}
 use Rattle.pairing.specs.Reservoir.{Reservoir, empty}
 use Rattle.layout.specs.Laws.{Storable}
 use Rattle.plans.specs.Calls.{PerformedOnline}

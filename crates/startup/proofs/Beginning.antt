@@ -22,8 +22,8 @@ use Rattle.startup.specs.Starts.{Came, came, stayed, Ready, HeaderRead}
 pub came_online : {d d' : Disk} → Brings d (Ok tt) d' → Came d (Ok tt) d'
 came_online {d} h = subst (Came d (Ok tt)) (sym (brought_ok h.brought).1) came
 
-pub stayed_offline : {d d' : Disk} {x : DeviceError} {f : Fault} → Brings d (Err x) d' → f ≡ offline 0 → Came d (Err f) d'
-stayed_offline {d} {d'} h e =
+pub stayed_offline_lem : {d d' : Disk} {x : DeviceError} {f : Fault} → Brings d (Err x) d' → f ≡ offline 0 → Came d (Err f) d'
+stayed_offline_lem {d} {d'} h e =
     subst (λ f. Came d (Err f) d') (sym e) (subst (Came d (Err (offline 0))) (sym (brought_err h.brought).2) stayed)
 
 -- ---- a call that brings the device online
@@ -41,8 +41,8 @@ module _ {A : Type 0} {early : Option Fault} {plan : Result (Plan A) Fault} {d :
       {d' : Disk} {r : Result A Fault} {f : Fault} → r ≡ Err f → PerformsOnline early plan d (Err f) d' → PerformsOnline early plan d r d'
   leaves {d'} e h = subst (λ r. PerformsOnline early plan d r d') (sym e) h
 
-  pub refused_early : {f : Fault} → ◌≡◌ {A = Result (Unit {0}) Fault} (Err f) (unless_fault early tt) → PerformsOnline early plan d (Err f) d
-  refused_early h = record { events = []; performed = refused_early (a_fault _ _ _ h); fixed = refl }
+  pub refused_early_lem : {f : Fault} → ◌≡◌ {A = Result (Unit {0}) Fault} (Err f) (unless_fault early tt) → PerformsOnline early plan d (Err f) d
+  refused_early_lem h = record { events = []; performed = refused_early (a_fault _ _ _ h); fixed = refl }
 
   pub kept_offline : {d' : Disk} {f : Fault} → Allowed early → Came d (Err f) d' → PerformsOnline early plan d (Err f) d'
   kept_offline ok stayed = record { events = online_refused ∷ []; performed = stayed_offline (allowed_none ok); fixed = refl }

@@ -6,7 +6,7 @@ ghost use Rattle.std.proofs.Common.{rules, arith};
 use crate::forms::{put_section, section};
 use crate::kind::Kind;
 use crate::label::Label;
-use bytes::all_zero;
+use octets::all_zero;
 
 // Pack labels, kind 1. The form has code, batch and expiry.
 impl Kind for Label {

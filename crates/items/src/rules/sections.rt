@@ -1,5 +1,5 @@
 ghost use Rattle.std.specs.Prelude.{◌≡◌, ◌<◌, ◌≤◌, length};
-ghost use Rattle.bytes.specs.Zeros.{every};
+ghost use Rattle.octets.specs.Zeros.{every};
 ghost use Rattle.items.specs.Alphabets.{letter};
 ghost use Rattle.items.specs.Calendar.{month_length, is_day};
 ghost use Rattle.items.specs.CheckDigit.{check_sum};

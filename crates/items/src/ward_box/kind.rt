@@ -8,7 +8,7 @@ ghost use Rattle.std.proofs.Common.{rules, arith};
 use crate::forms::{put, put_section, section};
 use crate::kind::Kind;
 use crate::ward_box::WardBox;
-use bytes::all_zero;
+use octets::all_zero;
 
 // Ward boxes, kind 2. The form has the ward and the weight difference.
 impl Kind for WardBox {

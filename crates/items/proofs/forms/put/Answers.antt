@@ -1,6 +1,6 @@
 use Rattle.std.proofs.Common.{length, sym, refl, ◌∙◌}
 use Rattle.std.proofs.lemmas.List.Edits.{paste_all}
-use Rattle.bytes.proofs.Edits.{placed_fits}
+use Rattle.octets.proofs.Edits.{placed_fits}
 use Rattle.items.proofs.forms.put.Goals as goal
 
 pub returns : goal.returns

@@ -1,5 +1,5 @@
 use Rattle.std.proofs.Common.{◌≡◌, ◌-◌, min, length, get_or, take, drop, ◌∙◌, arith, length-drop, take_all}
-use Rattle.bytes.proofs.Edits.{take_within, drop_within}
+use Rattle.octets.proofs.Edits.{take_within, drop_within}
 use Rattle.items.proofs.forms.section.Goals as goal
 
 rest-is : (c : goal.After-split-at) → take (length c.args.bytes.now - 1) (drop 1 c.args.bytes.now) ≡ drop 1 c.args.bytes.now

@@ -1,7 +1,7 @@
 use Rattle.std.proofs.Common.{sym, ap, ◌∙◌}
-use Rattle.bytes.specs.Numbers.{little}
-use Rattle.bytes.proofs.Edits.{piece}
-use Rattle.bytes.proofs.Numbers.{little_8}
+use Rattle.octets.specs.Numbers.{little}
+use Rattle.octets.proofs.Edits.{piece}
+use Rattle.octets.proofs.Numbers.{little_8}
 use Rattle.layout.proofs.HeadSteps.{one_byte, head_made}
 use Rattle.layout.proofs.head.head_bytes.Goals as goal
 

@@ -1,5 +1,5 @@
 use Rattle.std.proofs.Common.{◌≡◌, ◌*◌, take, drop, ◌∙◌, arith, rules}
-use Rattle.bytes.proofs.Under.{under_from}
+use Rattle.octets.proofs.Under.{under_from}
 use Rattle.layout.proofs.SetLaws.{zeros_past}
 use Rattle.layout.proofs.StockLaws.{bytes_exact}
 use Rattle.layout.proofs.packs.part.Goals as goal

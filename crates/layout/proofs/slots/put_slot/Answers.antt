@@ -1,5 +1,5 @@
 use Rattle.std.proofs.Common.{◌≡◌, ◌+◌, ◌++◌, length, take, drop, ◌∙◌, arith, rules}
-use Rattle.bytes.proofs.Edits.{placed_fits}
+use Rattle.octets.proofs.Edits.{placed_fits}
 use Rattle.layout.specs.Layout.{with_slot}
 use Rattle.layout.proofs.slots.put_slot.Goals as goal
 

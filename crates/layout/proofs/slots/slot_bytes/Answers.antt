@@ -1,6 +1,6 @@
 use Rattle.std.proofs.Common.{◌≡◌, ◌++◌, length, ap, ◌∙◌, rules}
-use Rattle.bytes.specs.Numbers.{little}
-use Rattle.bytes.specs.Zeros.{zeros}
+use Rattle.octets.specs.Numbers.{little}
+use Rattle.octets.specs.Zeros.{zeros}
 use Rattle.layout.proofs.Places.{slot_made}
 use Rattle.layout.proofs.slots.slot_bytes.Goals as goal
 

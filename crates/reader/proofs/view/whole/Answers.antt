@@ -1,7 +1,7 @@
 use Rattle.std.proofs.Common.{◌≡◌, ℕ, ◌<◌, length, get_or, rules}
 use Rattle.reader.proofs.view.whole.Goals as goal
 use Rattle.reader.proofs.BlockLaws.{whole_bytes}
-use Rattle.bytes.proofs.Under.{under_from}
+use Rattle.octets.proofs.Under.{under_from}
 use Rattle.layout.proofs.Blocks.{block_from}
 
 pub returns-in-Bytes : goal.returns-in-Bytes

@@ -1,13 +1,13 @@
 use Rattle.layout.proofs.LayoutLaws.{reads_exactly}
 use Rattle.register.specs.Same.{compared}
-use Rattle.register.proofs.Compares.{rest_lawful, decides_packs, refused_left, refused_right}
+use Rattle.register.proofs.Compares.{rest_lawful, decides_packs, refused_left_lem, refused_right_lem}
 use Rattle.register.proofs.comparing.same.Goals as goal
 
 pub returns-in-Err : goal.returns-in-Err
-returns-in-Err g c = refused_left c.left-fault.ensures c.in-Err.ensures
+returns-in-Err g c = refused_left_lem c.left-fault.ensures c.in-Err.ensures
 
 pub returns-in-Err-read-at-rest : goal.returns-in-Err-read-at-rest
-returns-in-Err-read-at-rest g c = refused_right c.right-fault.ensures c.in-Ok.ensures.1 c.in-Err-read-at-rest.ensures
+returns-in-Err-read-at-rest g c = refused_right_lem c.right-fault.ensures c.in-Ok.ensures.1 c.in-Err-read-at-rest.ensures
 
 pub returns : goal.returns
 returns g c =

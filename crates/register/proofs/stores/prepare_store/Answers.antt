@@ -3,7 +3,7 @@ use Rattle.layout.proofs.LayoutLaws.{reads_exactly}
 use Rattle.register.specs.Planned.{PlannedAs}
 use Rattle.register.proofs.Held.{rested}
 use Rattle.register.proofs.Performing.{prepared_exit}
-use Rattle.register.proofs.StorePlans.{large_refused, unread_refused, check_refused, goes_on, accepts}
+use Rattle.register.proofs.StorePlans.{large_refused, unread_refused, check_refused, goes_on_lem, accepts}
 use Rattle.register.proofs.stores.prepare_store.Goals as goal
 
 pub returns-in-err-check-number : goal.returns-in-err-check-number
@@ -40,6 +40,6 @@ returns g c =
     let rest = rested k.code k.form k.reading exact d _ read.1 in
     let passed = c.in-ok-check-store.ensures in
     subst (λ p. PlannedAs p c.drawn-store.result)
-    (sym (goes_on k.code k.form k.reading d _ item words _ small f _ read.1 read.2 _ passed))
+    (sym (goes_on_lem k.code k.form k.reading d _ item words _ small f _ read.1 read.2 _ passed))
     (c.drawn-store.ensures _ rest read.2
     (accepts k.code k.form k.reading d _ item words _ small f _ read.1 read.2 _ passed rest.storable))

@@ -3,7 +3,7 @@ use Rattle.layout.proofs.LayoutLaws.{reads_exactly}
 use Rattle.register.specs.Planned.{PlannedAs}
 use Rattle.register.proofs.Held.{rested}
 use Rattle.register.proofs.Performing.{prepared_exit}
-use Rattle.register.proofs.TakePlans.{large_refused, unread_refused, check_refused, goes_on, allowed}
+use Rattle.register.proofs.TakePlans.{large_refused, unread_refused, check_refused, goes_on_lem, allowed}
 use Rattle.register.proofs.takes.prepare_take.Goals as goal
 
 pub returns-in-err-check-number : goal.returns-in-err-check-number
@@ -38,6 +38,6 @@ returns g c =
     let rest = rested k.code k.form k.reading exact d _ read.1 in
     let passed = c.in-ok-check-take.ensures in
     subst (λ p. PlannedAs p c.plan-take.result)
-    (sym (goes_on k.code k.form k.reading d _ _ small f _ read.1 read.2 _ passed))
+    (sym (goes_on_lem k.code k.form k.reading d _ _ small f _ read.1 read.2 _ passed))
     (c.plan-take.ensures _ rest read.2
     (allowed k.code k.form k.reading d _ _ small f _ read.1 read.2 _ passed rest.storable))

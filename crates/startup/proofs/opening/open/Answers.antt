@@ -1,12 +1,12 @@
 use Rattle.std.proofs.Common.{Ok, Err}
 use Rattle.journal.proofs.Writes.{exit_is}
-use Rattle.startup.proofs.Beginning.{leaves, refused_early, kept_offline, went_refused, went_lost, went_done}
+use Rattle.startup.proofs.Beginning.{leaves, refused_early_lem, kept_offline, went_refused, went_lost, went_done}
 use Rattle.startup.proofs.OpenReads.{found_online}
 use Rattle.startup.specs.Opens.{plan_of}
 use Rattle.startup.proofs.opening.open.Goals as goal
 
 pub returns-in-err-require-blocks : goal.returns-in-err-require-blocks
-returns-in-err-require-blocks g c = leaves (exit_is c.from-residual.ensures.1) (refused_early c.in-err-require-blocks.ensures)
+returns-in-err-require-blocks g c = leaves (exit_is c.from-residual.ensures.1) (refused_early_lem c.in-err-require-blocks.ensures)
 
 pub returns-in-err-bring-online : goal.returns-in-err-bring-online
 returns-in-err-bring-online g c =

@@ -1,6 +1,6 @@
 use Rattle.std.proofs.Common.{sym}
 use Rattle.items.specs.Alphabets.{letter}
-use Rattle.bytes.proofs.Zeros.{every_more, every_ends, every_fails}
+use Rattle.octets.proofs.Zeros.{every_more, every_ends, every_fails}
 use Rattle.items.proofs.rules.Alphabet.has_all.Goals as goal
 
 pub returns-then-not-has : goal.returns-then-not-has

@@ -1,5 +1,5 @@
 use Rattle.std.proofs.Common.{◌≡◌, drop}
-use Rattle.bytes.specs.Zeros.{every}
+use Rattle.octets.specs.Zeros.{every}
 use Rattle.items.specs.Alphabets.{letter}
 use Rattle.items.proofs.rules.Alphabet.has_all.Given as goal
 

@@ -1,6 +1,6 @@
 use Rattle.std.proofs.Common.{◌≡◌}
 use lib.Seq.{paste}
-use Rattle.bytes.specs.Zeros.{zeros}
+use Rattle.octets.specs.Zeros.{zeros}
 use Rattle.items.proofs.text.chars.array.Given as goal
 
 abbrev pub invariant-loop-i : goal.invariant-loop-i

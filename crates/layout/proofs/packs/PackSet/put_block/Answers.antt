@@ -1,7 +1,7 @@
 use Rattle.std.proofs.Common.{◌≡◌, ◌*◌, length, sym, ap, ◌∙◌, arith, rules}
 use Rattle.std.proofs.lemmas.Bool.{cond-true, cond-false, lt-ltb, le-ltb}
-use Rattle.bytes.specs.Edits.{written}
-use Rattle.bytes.proofs.Edits.{placed_fits}
+use Rattle.octets.specs.Edits.{written}
+use Rattle.octets.proofs.Edits.{placed_fits}
 use Rattle.layout.specs.Edits.{with_part}
 use Rattle.layout.proofs.packs.PackSet.put_block.Goals as goal
 

@@ -1,7 +1,7 @@
 use Rattle.std.proofs.Common.{◌≡◌, sym, ap, ◌∙◌, ne_eqb}
 use Rattle.std.specs.Result.{result_ok}
 use Rattle.std.proofs.lemmas.Bool.{and_left, and_right}
-use Rattle.bytes.specs.Zeros.{every, blank}
+use Rattle.octets.specs.Zeros.{every, blank}
 use Rattle.items.specs.Forms.{front, behind}
 use Rattle.items.specs.Labels.{label}
 use Rattle.items.specs.LabelForm.{reading_none, reading_some}

@@ -1,6 +1,6 @@
 use Rattle.std.proofs.Common.{[], ◌∷◌, sym, refl, ◌∙◌}
-use Rattle.bytes.proofs.Edits.{piece}
-use Rattle.bytes.proofs.Numbers.{little_4, little_8}
+use Rattle.octets.proofs.Edits.{piece}
+use Rattle.octets.proofs.Numbers.{little_4, little_8}
 use Rattle.journal.specs.Header.{field_bytes}
 use Rattle.journal.proofs.headers.fields.Fields.to_bytes.Goals as goal
 

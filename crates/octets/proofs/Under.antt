@@ -3,7 +3,7 @@
 use Rattle.std.proofs.Common.{◌≡◌, ℕ, zero, suc, ◌<◌, true, ltb, List, [], ◌∷◌, ◌++◌, get_or, take, drop, refl, arith}
 use Rattle.std.specs.List.{AllByRecursion as All}
 use Rattle.std.proofs.lemmas.Bool.{and_from, and_parts, lt-ltb, ltb-true}
-use Rattle.bytes.specs.Zeros.{every, zeros}
+use Rattle.octets.specs.Zeros.{every, zeros}
 
 abbrev pub Under256 : List ℕ → Type 0
 Under256 xs = every (λ b. ltb b 256) xs ≡ true

@@ -1,7 +1,7 @@
 use Rattle.std.proofs.Common.{◌≡◌, ap, ◌∙◌, arith}
-use Rattle.bytes.specs.Numbers.{number_at}
-use Rattle.bytes.proofs.Numbers.{number_4}
-use Rattle.bytes.proofs.u32_at.Goals as goal
+use Rattle.octets.specs.Numbers.{number_at}
+use Rattle.octets.proofs.Numbers.{number_4}
+use Rattle.octets.proofs.u32_at.Goals as goal
 
 pub returns : goal.returns
 returns c =

@@ -1,6 +1,6 @@
 use Rattle.std.proofs.Common.{drop, ap, ◌∙◌, arith, length-drop, take_all}
-use Rattle.bytes.proofs.Edits.{drop_within}
-use Rattle.bytes.proofs.from.Goals as goal
+use Rattle.octets.proofs.Edits.{drop_within}
+use Rattle.octets.proofs.from.Goals as goal
 
 pub returns : goal.returns
 returns c =

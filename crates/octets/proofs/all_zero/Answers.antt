@@ -1,7 +1,7 @@
 use Rattle.std.proofs.Common.{eq-eqb, ne_eqb}
-use Rattle.bytes.specs.Zeros.{blank}
-use Rattle.bytes.proofs.Zeros.{every_more, every_ends, every_fails}
-use Rattle.bytes.proofs.all_zero.Goals as goal
+use Rattle.octets.specs.Zeros.{blank}
+use Rattle.octets.proofs.Zeros.{every_more, every_ends, every_fails}
+use Rattle.octets.proofs.all_zero.Goals as goal
 
 pub returns-then-byte-ne0 : goal.returns-then-byte-ne0
 returns-then-byte-ne0 c = every_fails blank _ _ c.loop-byte.invariant c.loop-byte-test.true (ne_eqb _ 0 c.if-byte-ne0.true)

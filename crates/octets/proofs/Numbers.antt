@@ -5,10 +5,10 @@ use native.Mathlib.Nat.{pow-zero, div-div-eq-div-mul}
 use Rattle.std.proofs.lemmas.Nat.{div_below}
 use Rattle.std.proofs.lemmas.List.{drop-drop, length-take-le}
 use Rattle.std.proofs.lemmas.Bool.{and_from, lt-ltb}
-use Rattle.bytes.specs.Numbers.{little, value_of, number_at}
-use Rattle.bytes.specs.Zeros.{every, blank, zeros}
-use Rattle.bytes.proofs.Under.{Under256, under_first, under_rest, under_take, under_drop}
-use Rattle.bytes.proofs.Zeros.{blank_zeros}
+use Rattle.octets.specs.Numbers.{little, value_of, number_at}
+use Rattle.octets.specs.Zeros.{every, blank, zeros}
+use Rattle.octets.proofs.Under.{Under256, under_first, under_rest, under_take, under_drop}
+use Rattle.octets.proofs.Zeros.{blank_zeros}
 
 -- ---- there and back
 

@@ -1,6 +1,6 @@
 use Rattle.std.proofs.Common.{sym, ◌∙◌, arith}
-use Rattle.bytes.proofs.Edits.{placed_fits, copied}
-use Rattle.bytes.proofs.put.Goals as goal
+use Rattle.octets.proofs.Edits.{placed_fits, copied}
+use Rattle.octets.proofs.put.Goals as goal
 
 pub returns-then-new-bytes : goal.returns-then-new-bytes
 returns-then-new-bytes c =

@@ -1,7 +1,7 @@
 use Rattle.std.proofs.Common.{◌≡◌, ap, ◌∙◌, arith}
-use Rattle.bytes.specs.Numbers.{number_at}
-use Rattle.bytes.proofs.Numbers.{number_2}
-use Rattle.bytes.proofs.u16_at.Goals as goal
+use Rattle.octets.specs.Numbers.{number_at}
+use Rattle.octets.proofs.Numbers.{number_2}
+use Rattle.octets.proofs.u16_at.Goals as goal
 
 pub returns : goal.returns
 returns c =

@@ -3,7 +3,7 @@
 use Rattle.std.proofs.Common.{◌≡◌, ℕ, zero, suc, ◌+◌, ◌<◌, ◌≤◌, Bool, true, false, ◌&&◌, eqb, List, [], ◌∷◌, length, get_or, drop, sym, refl, ap, ◌∙◌, eqb-true}
 use Rattle.std.proofs.lemmas.List.{drop_more, drop_all}
 use Rattle.std.proofs.lemmas.Bool.{and_left, and_parts}
-use Rattle.bytes.specs.Zeros.{zeros, every, blank}
+use Rattle.octets.specs.Zeros.{zeros, every, blank}
 
 pub zeros_blank : (n : ℕ) → every blank (zeros n) ≡ true
 zeros_blank zero = refl

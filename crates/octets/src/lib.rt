@@ -3,9 +3,9 @@
 
 ghost use Rattle.std.specs.Prelude.{◌≡◌, drop, slice_index};
 ghost use Rattle.std.specs.Str.{bytes_eq};
-ghost use Rattle.bytes.specs.Edits.{placed};
-ghost use Rattle.bytes.specs.Numbers.{number_at};
-ghost use Rattle.bytes.specs.Zeros.{every, blank};
+ghost use Rattle.octets.specs.Edits.{placed};
+ghost use Rattle.octets.specs.Numbers.{number_at};
+ghost use Rattle.octets.specs.Zeros.{every, blank};
 
 // Whether all bytes are zero.
 pub fn all_zero(bytes: &[u8]) -> bool

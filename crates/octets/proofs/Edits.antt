@@ -6,7 +6,7 @@ use Rattle.std.proofs.lemmas.List.Edits.{paste_all}
 use Rattle.std.proofs.lemmas.List.{drop_all}
 use Rattle.std.proofs.lemmas.Slice.{put_mid-paste}
 use Rattle.std.proofs.lemmas.Bool.{cases_lt, cond-true, le-leb}
-use Rattle.bytes.specs.Edits.{written, placed}
+use Rattle.octets.specs.Edits.{written, placed}
 
 -- a count that passes the end takes all there is
 pub take_within : (n : ℕ) (xs : List ℕ) → take (min n (length xs)) xs ≡ take n xs
