@@ -2,9 +2,9 @@
 ghost use Rattle.std.specs.Prelude.{◌≡◌};
 ghost use Rattle.journal.specs.Header.{free_bytes, pending_bytes, fields_for, call_fields, bytes_header, header_of, free_or_refused};
 
-use bytes::{put, same};
 use device::Entry;
 use fault::{Damage, Fault};
+use octets::{put, same};
 
 mod fields;
 

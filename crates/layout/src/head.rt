@@ -6,8 +6,8 @@ ghost use Rattle.std.specs.Str.{bytes_eq};
 ghost use Rattle.layout.specs.Layout.{mark, head_of};
 ghost use Rattle.layout.specs.Reading.{blank_at, marked, known_kind, counts_in, in_range, head_fault, unless_fault};
 
-use bytes::{all_zero, put, u16_at, u64_at};
 use fault::{Damage, Fault};
+use octets::{all_zero, put, u16_at, u64_at};
 use pairing::{Counters, Counts};
 
 // The bytes of a head, for a kind's code.

@@ -6,9 +6,9 @@ ghost use Rattle.octets.specs.Numbers.{number_at};
 ghost use Rattle.layout.specs.Reading.{unless_fault, in_set, used_fault, unused_fault};
 
 use crate::packs::PackSet;
-use bytes::{all_zero, put, u16_at};
 use fault::{Damage, Fault};
 use items::Kind;
+use octets::{all_zero, put, u16_at};
 
 // The bytes of a slot in use.
 pub fn slot_bytes<K: Kind>(number: u16, item: &K) -> [u8; 64]

@@ -3,7 +3,7 @@ ghost use Rattle.std.specs.Prelude.{◌≡◌};
 ghost use Rattle.journal.specs.Header.{reserved_zero, marked, fields_of, field_bytes, slot_block, stock_block, lawful_blocks, store_of, take_of, call_of, pending_of};
 
 use super::{Pending, PendingCall};
-use bytes::{all_zero, put, same, u16_at, u32_at, u64_at};
+use octets::{all_zero, put, same, u16_at, u32_at, u64_at};
 
 #[derive(Clone, Copy)]
 pub(crate) struct Fields {
