@@ -22,15 +22,15 @@ const MOST_WORDS: u8 = 64;
 // Places end at 2^64 - 1, and a draw that comes past that end finds no word there; the clause
 // `lawful` is for the places that a register can come to, far below.
 pub fn draw<S: Source>(source: &S, width: Width, place: u64) -> Result<Drawn, Fault>
-    ensures value { result ≡ ok_or (draw_of (addressable (words source.now)) width.value place) no_draw }
-    ensures lawful { place ≤ 2 ^ 38 → result ≡ ok_or (draw_of (words source.now) width.value place) no_draw }
+    ensures value { result ≡ ok_or (draw_of (addressable (S.words source.now)) width.value place) no_draw }
+    ensures lawful { place ≤ 2 ^ 38 → result ≡ ok_or (draw_of (S.words source.now) width.value place) no_draw }
     ensures within { IfOk result (λ d. (d.value < width.value) × (d.used ≤ 64)) }
 {
     look(source, width, place).ok_or(Fault::NO_DRAW)
 }
 
 fn look<S: Source>(source: &S, width: Width, place: u64) -> Option<Drawn>
-    ensures { result ≡ draw_of (addressable (words source.now)) width.value place }
+    ensures { result ≡ draw_of (addressable (S.words source.now)) width.value place }
 {
     if width.get() == 1 {
         return Some(Drawn { value: 0, used: 0 });
@@ -58,7 +58,7 @@ fn limit_of(width: Width) -> u64
 
 // The word so many places after the place.
 fn word_after<S: Source>(source: &S, place: u64, after: u8) -> Option<u32>
-    ensures { result ≡ addressable (words source.now) (place + after) }
+    ensures { result ≡ addressable (S.words source.now) (place + after) }
 {
     source.word(place.checked_add(u64::from(after))?)
 }

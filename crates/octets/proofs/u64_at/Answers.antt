@@ -6,5 +6,5 @@ use Rattle.octets.proofs.u64_at.Goals as goal
 pub returns : goal.returns
 returns c =
     let tail = c.from-tail.result.now in
-    let read : c.from-le-bytes.result ≡ number_at tail 0 8 = omega (arith, number_8 tail) in
+    let read : c.from_le_bytes.result ≡ number_at tail 0 8 = omega (arith, number_8 tail) in
     read ∙ ap (λ l. number_at l 0 8) c.from-tail.ensures

@@ -6,5 +6,5 @@ use Rattle.device.proofs.images.put_block.Goals as goal
 pub returns : goal.returns
 returns c =
     let at = 512 * c.args.block in
-    put_mid-paste at ((at + 512) - at) c.args.bytes.now c.copy-from-slice.new.self c.args.new.now 512 c.copy-from-slice.ensures.after (omega arith) (omega arith)
+    put_mid-paste at ((at + 512) - at) c.args.bytes.now c.copy_from_slice.new.self c.args.new.now 512 c.copy_from_slice.ensures.after (omega arith) (omega arith)
     ∙ paste_all c.args.bytes.now at c.args.new.now 512 (omega arith)

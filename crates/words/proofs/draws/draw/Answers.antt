@@ -10,7 +10,7 @@ returns g c =
     let words = g.S.Source.words c.args.source.now in
     let width = c.args.width.value in
     let place = c.args.place in
-    let value : c.ok-or.result ≡ ok_or (draw_of (addressable words) width place) no_draw = simp (c.ok-or.ensures.value, c.look.ensures) in
+    let value : c.ok_or.result ≡ ok_or (draw_of (addressable words) width place) no_draw = simp (c.ok_or.ensures.value, c.look.ensures) in
     record {
       value = value;
       lawful = λ near. value ∙ ap (λ o. ok_or o no_draw) (draw_near words width place (omega arith));

@@ -36,5 +36,5 @@ bounds-self-at-3 c = omega (arith, blocks_failing c.args.self.now.entries.now c.
 pub returns : goal.returns
 returns c =
     let s = c.args.self.now in
-    let w = failing_lost s.entries.now s.online c.args.block c.args.bytes.now s.leaves (omega arith) c.if-not-self.false s.good _ c.left-by.result (omega arith) c.left-by.ensures in
+    let w = failing_lost s.entries.now s.online c.args.block c.args.bytes.now s.leaves (omega arith) c.if-not-self.false s.good _ c.left_by.result (omega arith) c.left_by.ensures in
     record { writes = writes w; event = λ h o. w; good = refl; told = (refl, refl) }

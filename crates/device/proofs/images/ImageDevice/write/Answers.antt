@@ -17,8 +17,8 @@ returns-then-block-count c =
       lender = refl;
     }
 
-pub put-block-requires : goal.put-block-requires
-put-block-requires c =
+pub put_block-requires : goal.put_block-requires
+put_block-requires c =
     block_within c.args.self.now.bytes.now c.args.block (omega (arith, blocks_disk_in c.args.self.now.bytes.now))
 
 pub returns : goal.returns
@@ -32,8 +32,8 @@ returns c =
           writes_done
           (omega arith)
           (online_disk_in bytes)
-          (ap disk_in c.put-block.ensures ∙ disk_in_with_block bytes c.args.block new h (omega arith));
+          (ap disk_in c.put_block.ensures ∙ disk_in_with_block bytes c.args.block new h (omega arith));
       answer = sym (cond-true _ _ _ inside);
-      bytes = c.put-block.ensures ∙ sym (cond-true _ _ _ inside);
+      bytes = c.put_block.ensures ∙ sym (cond-true _ _ _ inside);
       lender = refl;
     }

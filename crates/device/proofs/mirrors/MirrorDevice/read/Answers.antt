@@ -11,21 +11,21 @@ returns-then-block-count g c =
     let r = g.R.Device.meaning c.args.self.now.right in
     sym (reading_outside (mirror_of l r) c.args.block (omega arith))
 
-pub returns-in-err-left : goal.returns-in-err-left
-returns-in-err-left g c =
+pub returns-in_err-left : goal.returns-in_err-left
+returns-in_err-left g c =
     let l = g.L.Device.meaning c.args.self.now.left in
     let r = g.R.Device.meaning c.args.self.now.right in
-    exit_is c.from-residual.ensures.1 ∙ sym (left_refuses l r c.args.block (omega arith) _ c.in-err-left.ensures)
+    exit_is c.from_residual.ensures.1 ∙ sym (left_refuses l r c.args.block (omega arith) _ c.in_err-left.ensures)
 
-pub returns-in-err-right : goal.returns-in-err-right
-returns-in-err-right g c =
+pub returns-in_err-right : goal.returns-in_err-right
+returns-in_err-right g c =
     let l = g.L.Device.meaning c.args.self.now.left in
     let r = g.R.Device.meaning c.args.self.now.right in
-    exit_is c.from-residual-in-err-right.ensures.1 ∙ sym (right_refuses l r c.args.block (omega arith) _ c.in-err-right.ensures)
+    exit_is c.from_residual-in_err-right.ensures.1 ∙ sym (right_refuses l r c.args.block (omega arith) _ c.in_err-right.ensures)
 
 pub returns : goal.returns
 returns g c =
     let l = g.L.Device.meaning c.args.self.now.left in
     let r = g.R.Device.meaning c.args.self.now.right in
     ap Ok c.prefer.ensures
-    ∙ sym (both_read l r c.args.block _ _ c.in-ok-left.ensures c.in-ok-right.ensures)
+    ∙ sym (both_read l r c.args.block _ _ c.in_ok-left.ensures c.in_ok-right.ensures)
