@@ -4,11 +4,11 @@ use Rattle.journal.specs.Writes.{header_write}
 use Rattle.journal.proofs.Writes.{runs_append, runs_before, runs_as, exit_is}
 use Rattle.journal.proofs.runs.replay.Goals as goal
 
-pub returns-in-err-write-all : goal.returns-in-err-write-all
-returns-in-err-write-all g c =
-    runs_before (header_write free_bytes ∷ []) (exit_is c.from-residual.ensures.1) c.in-err-write-all.ensures
+pub returns-in_err-write_all : goal.returns-in_err-write_all
+returns-in_err-write_all g c =
+    runs_before (header_write free_bytes ∷ []) (exit_is c.from_residual.ensures.1) c.in_err-write_all.ensures
 
 pub returns : goal.returns
 returns g c =
-    runs_append c.in-ok-write-all.ensures
-    (runs_as (c.header-write.ensures ∙ ap header_write c.free-header.ensures) c.write-one.ensures)
+    runs_append c.in_ok-write_all.ensures
+    (runs_as (c.header_write.ensures ∙ ap header_write c.free_header.ensures) c.write_one.ensures)

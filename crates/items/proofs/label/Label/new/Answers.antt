@@ -5,27 +5,26 @@ use Rattle.items.specs.Lawful.{lawful_label}
 use Rattle.items.specs.LabelsLemmas.{all_lawful, label_of}
 use Rattle.items.proofs.label.Label.new.Goals as goal
 
-pub invariant-of-result : goal.invariant-of-result
-invariant-of-result c =
-    let h = all_lawful c.args.code.now c.args.batch.now c.args.expiry.now c.if-not-is-code.ensures c.if-not-is-batch.ensures c.if-not-is-expiry.ensures in (
-      (λ i. lawful_label (chars (c.short-code.ensures i)) (chars (c.short-batch.ensures i)) (chars (c.short-expiry.ensures i)))
-          ∙ (of_sections c.args.code.now c.args.batch.now c.args.expiry.now h).lawful,
-      tt,
-    )
+pub invariant_of-result : goal.invariant_of-result
+invariant_of-result c =
+    let h = all_lawful c.args.code.now c.args.batch.now c.args.expiry.now c.if-not-is_code.ensures c.if-not-is_batch.ensures c.if-not-is_expiry.ensures in record {
+      lawful = (λ i. lawful_label (chars (c.short-code.ensures i)) (chars (c.short-batch.ensures i)) (chars (c.short-expiry.ensures i)))
+          ∙ (of_sections c.args.code.now c.args.batch.now c.args.expiry.now h).lawful;
+    }
 
 pub returns : goal.returns
 returns c =
-    let h = all_lawful c.args.code.now c.args.batch.now c.args.expiry.now c.if-not-is-code.ensures c.if-not-is-batch.ensures c.if-not-is-expiry.ensures in
+    let h = all_lawful c.args.code.now c.args.batch.now c.args.expiry.now c.if-not-is_code.ensures c.if-not-is_batch.ensures c.if-not-is_expiry.ensures in
     label_of c.args.code.now c.args.batch.now c.args.expiry.now h _ c.short-code.ensures c.short-batch.ensures c.short-expiry.ensures
 
-pub returns-then-not-is-code : goal.returns-then-not-is-code
+pub returns-then-not-is_code : goal.returns-then-not-is_code
 unfolding label
-returns-then-not-is-code c = search rules
+returns-then-not-is_code c = search rules
 
-pub returns-then-not-is-batch : goal.returns-then-not-is-batch
+pub returns-then-not-is_batch : goal.returns-then-not-is_batch
 unfolding label
-returns-then-not-is-batch c = search rules
+returns-then-not-is_batch c = search rules
 
-pub returns-then-not-is-expiry : goal.returns-then-not-is-expiry
+pub returns-then-not-is_expiry : goal.returns-then-not-is_expiry
 unfolding label
-returns-then-not-is-expiry c = search rules
+returns-then-not-is_expiry c = search rules

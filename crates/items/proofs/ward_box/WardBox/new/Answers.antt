@@ -5,20 +5,20 @@ use Rattle.items.specs.Texts.{chars}
 use Rattle.items.specs.BoxesLemmas.{both_lawful, box_of}
 use Rattle.items.proofs.ward_box.WardBox.new.Goals as goal
 
-pub returns-then-not-is-ward : goal.returns-then-not-is-ward
+pub returns-then-not-is_ward : goal.returns-then-not-is_ward
 unfolding ward_box
-returns-then-not-is-ward c = search rules
+returns-then-not-is_ward c = search rules
 
-pub returns-then-not-is-difference : goal.returns-then-not-is-difference
+pub returns-then-not-is_difference : goal.returns-then-not-is_difference
 unfolding ward_box
-returns-then-not-is-difference c = search rules
+returns-then-not-is_difference c = search rules
 
-pub invariant-of-result : goal.invariant-of-result
-invariant-of-result c =
-    let h = both_lawful c.args.ward.now c.args.difference c.if-not-is-ward.ensures c.if-not-is-difference.ensures in
-    ((λ i. lawful_box (chars (c.short-ward.ensures i)) c.args.difference) ∙ (of_sections c.args.ward.now c.args.difference h).lawful, tt)
+pub invariant_of-result : goal.invariant_of-result
+invariant_of-result c =
+    let h = both_lawful c.args.ward.now c.args.difference c.if-not-is_ward.ensures c.if-not-is_difference.ensures in
+    record { lawful = (λ i. lawful_box (chars (c.short-ward.ensures i)) c.args.difference) ∙ (of_sections c.args.ward.now c.args.difference h).lawful }
 
 pub returns : goal.returns
 returns c =
-    let h = both_lawful c.args.ward.now c.args.difference c.if-not-is-ward.ensures c.if-not-is-difference.ensures in
+    let h = both_lawful c.args.ward.now c.args.difference c.if-not-is_ward.ensures c.if-not-is_difference.ensures in
     box_of c.args.ward.now c.args.difference h _ c.short-ward.ensures refl

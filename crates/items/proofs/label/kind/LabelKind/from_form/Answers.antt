@@ -6,7 +6,7 @@ use Rattle.items.specs.Forms.{front, behind}
 use Rattle.items.specs.Labels.{label}
 use Rattle.items.specs.LabelForm.{reading_none, reading_some}
 use Rattle.items.proofs.label.kind.LabelKind.from_form.Goals as goal
-use Rattle.items.proofs.label.kind.LabelKind.from_form.Goals.{then-bytes-ne60-via-then-bytes-ne60, then-bytes-ne60-via-else-bytes-ne60+then-not-all-zero}
+use Rattle.items.proofs.label.kind.LabelKind.from_form.Goals.{then-bytes-ne60-via-then-bytes-ne60, then-bytes-ne60-via-else-bytes-ne60+then-not-all_zero}
 
 pub returns-then-bytes-ne60 : goal.returns-then-bytes-ne60
 returns-then-bytes-ne60 c =
@@ -14,7 +14,7 @@ returns-then-bytes-ne60 c =
     let rest : c.section-3.result.1.now ≡ behind (behind (behind s)) = c.section-3.ensures.rest ∙ ap behind (c.section-2.ensures.rest ∙ ap behind c.section.ensures.rest) in
     reading_none s (elim c.then-bytes-ne60.branch [
       | then-bytes-ne60-via-then-bytes-ne60 w ↦ and_left _ _ (ne_eqb _ 60 w.if-bytes-ne60.true)
-      | then-bytes-ne60-via-else-bytes-ne60+then-not-all-zero w ↦ and_right _ _ (sym (ap (every blank) rest) ∙ sym w.if-not-all-zero.ensures)
+      | then-bytes-ne60-via-else-bytes-ne60+then-not-all_zero w ↦ and_right _ _ (sym (ap (every blank) rest) ∙ sym w.if-not-all_zero.ensures)
     ])
 
 pub returns : goal.returns
@@ -26,4 +26,4 @@ returns c =
     c.ok.ensures.value
     ∙ ap result_ok c.new.ensures
     ∙ (λ i. result_ok (label (c.section.ensures.first i) ((c.section-2.ensures.first ∙ ap front once) i) ((c.section-3.ensures.first ∙ ap front twice) i)))
-    ∙ sym (reading_some s c.if-bytes-ne60.false (sym (ap (every blank) rest) ∙ sym c.if-not-all-zero.ensures))
+    ∙ sym (reading_some s c.if-bytes-ne60.false (sym (ap (every blank) rest) ∙ sym c.if-not-all_zero.ensures))

@@ -7,6 +7,6 @@ use Rattle.items.proofs.label.kind.LabelKind.to_form.Goals as goal
 
 pub returns : goal.returns
 returns c =
-    let code = written_more (written_none (zeros 60)) (ap counted c.code.ensures) c.put-section-batch.ensures.after c.put-section-batch.ensures.next in
-    let batch = written_more code (ap counted c.batch.ensures) c.put-section-expiry.ensures.after c.put-section-expiry.ensures.next in
-    form_written c.args.self.now (written_more batch (ap counted c.expiry.ensures) c.put-section.ensures.after c.put-section.ensures.next)
+    let code = written_more (written_none (zeros 60)) (ap counted c.code.ensures) c.put_section-batch.ensures.after c.put_section-batch.ensures.next in
+    let batch = written_more code (ap counted c.batch.ensures) c.put_section-expiry.ensures.after c.put_section-expiry.ensures.next in
+    form_written c.args.self.now (written_more batch (ap counted c.expiry.ensures) c.put_section.ensures.after c.put_section.ensures.next)

@@ -8,6 +8,6 @@ returns-then-bytes-ne60 c = reading_none c.args.bytes.now c.if-bytes-ne60.true
 
 pub returns : goal.returns
 returns c =
-    c.after-ward.ensures
+    c.after_ward.ensures
     ∙ (λ i. after_ward (c.section.ensures.first i) (c.section.ensures.rest i))
     ∙ sym (reading_some c.args.bytes.now c.if-bytes-ne60.false)
