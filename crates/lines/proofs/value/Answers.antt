@@ -1,8 +1,8 @@
 use Rattle.lines.proofs.Values.{digit_at, value_more, value_all}
 use Rattle.lines.proofs.value.Goals as goal
 
-pub overflow-sub-digit : goal.overflow-sub-digit
-overflow-sub-digit c = (digit_at _ c.requires _ c.loop-digit-test.true).0
+pub overflow_sub-digit : goal.overflow_sub-digit
+overflow_sub-digit c = (digit_at _ c.requires _ c.loop-digit-test.true).0
 
 pub loop-digit-preserved : goal.loop-digit-preserved
 loop-digit-preserved c =

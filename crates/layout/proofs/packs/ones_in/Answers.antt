@@ -5,8 +5,8 @@ use Rattle.std.proofs.lemmas.List.Sums.{sum_by_more}
 use Rattle.layout.specs.Reading.{ones_in}
 use Rattle.layout.proofs.packs.ones_in.Goals as goal
 
-pub overflow-add-count : goal.overflow-add-count
-overflow-add-count c =
+pub overflow_add-count : goal.overflow_add-count
+overflow_add-count c =
     let small : get_or c.args.bytes.now c.loop-byte.byte-index 0 < 256 = search rules in
     let few : ones (get_or c.args.bytes.now c.loop-byte.byte-index 0) ≤ 8 = ones-le 8 _ small in
     search rules

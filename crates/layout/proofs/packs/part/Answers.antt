@@ -7,7 +7,7 @@ use Rattle.layout.proofs.packs.part.Goals as goal
 pub returns-then-j-lt8 : goal.returns-then-j-lt8
 returns-then-j-lt8 c =
     let xs = c.args.bytes.now in
-    let part : c.copy-from-slice.new.self ≡ take 512 (drop (512 * c.args.j) xs) = search rules in
+    let part : c.copy_from_slice.new.self ≡ take 512 (drop (512 * c.args.j) xs) = search rules in
     part ∙ bytes_exact xs c.told-bytes (under_from xs c.fits-bytes) c.args.j c.if-j-lt8.true
 
 pub returns-else-j-lt8 : goal.returns-else-j-lt8

@@ -3,29 +3,29 @@ use Rattle.layout.specs.Reading.{in_set}
 use Rattle.layout.proofs.FaultSteps.{form_read, used_mark, used_range, used_absent, used_unlawful, used_read}
 use Rattle.layout.proofs.slots.read_used.Goals as goal
 
-pub returns-then-not-all-zero : goal.returns-then-not-all-zero
-returns-then-not-all-zero g c =
-    used_mark g.K.Kind.reading (in_set c.args.set.now.bytes) c.args.block c.args.slot.now _ c.not-register.ensures
-    (sym c.if-not-all-zero.ensures)
+pub returns-then-not-all_zero : goal.returns-then-not-all_zero
+returns-then-not-all_zero g c =
+    used_mark g.K.Kind.reading (in_set c.args.set.now.bytes) c.args.block c.args.slot.now _ c.not_register.ensures
+    (sym c.if-not-all_zero.ensures)
 
 pub returns-then-number-ge32768 : goal.returns-then-number-ge32768
 returns-then-number-ge32768 g c =
-    used_range g.K.Kind.reading (in_set c.args.set.now.bytes) c.args.block c.args.slot.now _ c.u16-at-number.ensures
-    (sym c.if-not-all-zero.ensures) _ c.not-register-then-number-ge32768.ensures c.if-number-ge32768.true
+    used_range g.K.Kind.reading (in_set c.args.set.now.bytes) c.args.block c.args.slot.now _ c.u16_at-number.ensures
+    (sym c.if-not-all_zero.ensures) _ c.not_register-then-number-ge32768.ensures c.if-number-ge32768.true
 
 pub returns-then-not-has : goal.returns-then-not-has
 returns-then-not-has g c =
-    used_absent g.K.Kind.reading (in_set c.args.set.now.bytes) c.args.block c.args.slot.now _ c.u16-at-number.ensures
-    (sym c.if-not-all-zero.ensures) c.if-number-ge32768.false _ c.not-register-then-not-has.ensures (sym c.if-not-has.ensures)
+    used_absent g.K.Kind.reading (in_set c.args.set.now.bytes) c.args.block c.args.slot.now _ c.u16_at-number.ensures
+    (sym c.if-not-all_zero.ensures) c.if-number-ge32768.false _ c.not_register-then-not-has.ensures (sym c.if-not-has.ensures)
 
-pub returns-then-is-none : goal.returns-then-is-none
-returns-then-is-none g c =
-    let form : is_some (g.K.Kind.reading (drop 4 c.args.slot.now)) ≡ false = form_read g.K.Kind.reading c.args.slot.now _ c.told-slot c.from-form.ensures ∙ c.if-is-none.ensures in
-    used_unlawful g.K.Kind.reading (in_set c.args.set.now.bytes) c.args.block c.args.slot.now _ c.u16-at-number.ensures
-    (sym c.if-not-all-zero.ensures) c.if-number-ge32768.false (sym c.if-not-has.ensures) _ c.not-register-then-is-none.ensures form
+pub returns-then-is_none : goal.returns-then-is_none
+returns-then-is_none g c =
+    let form : is_some (g.K.Kind.reading (drop 4 c.args.slot.now)) ≡ false = form_read g.K.Kind.reading c.args.slot.now _ c.told-slot c.from_form.ensures ∙ c.if-is_none.ensures in
+    used_unlawful g.K.Kind.reading (in_set c.args.set.now.bytes) c.args.block c.args.slot.now _ c.u16_at-number.ensures
+    (sym c.if-not-all_zero.ensures) c.if-number-ge32768.false (sym c.if-not-has.ensures) _ c.not_register-then-is_none.ensures form
 
 pub returns : goal.returns
 returns g c =
-    let form : is_some (g.K.Kind.reading (drop 4 c.args.slot.now)) ≡ true = form_read g.K.Kind.reading c.args.slot.now _ c.told-slot c.from-form.ensures ∙ c.if-is-none.ensures in
-    used_read g.K.Kind.reading (in_set c.args.set.now.bytes) c.args.block c.args.slot.now _ c.u16-at-number.ensures
-    (sym c.if-not-all-zero.ensures) c.if-number-ge32768.false (sym c.if-not-has.ensures) form
+    let form : is_some (g.K.Kind.reading (drop 4 c.args.slot.now)) ≡ true = form_read g.K.Kind.reading c.args.slot.now _ c.told-slot c.from_form.ensures ∙ c.if-is_none.ensures in
+    used_read g.K.Kind.reading (in_set c.args.set.now.bytes) c.args.block c.args.slot.now _ c.u16_at-number.ensures
+    (sym c.if-not-all_zero.ensures) c.if-number-ge32768.false (sym c.if-not-has.ensures) form

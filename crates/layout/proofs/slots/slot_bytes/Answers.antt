@@ -6,6 +6,6 @@ use Rattle.layout.proofs.slots.slot_bytes.Goals as goal
 
 pub returns : goal.returns
 returns g c =
-    let size : length c.to-form.result ≡ 60 = search rules in
-    slot_made c.args.number _ _ c.to-form.result _ c.to-le-bytes.ensures c.put.ensures c.put-2.ensures size
-    ∙ ap (λ l. little 2 c.args.number ++ (zeros 2 ++ l)) c.to-form.ensures
+    let size : length c.to_form.result ≡ 60 = search rules in
+    slot_made c.args.number _ _ c.to_form.result _ c.to_le_bytes.ensures c.put.ensures c.put-2.ensures size
+    ∙ ap (λ l. little 2 c.args.number ++ (zeros 2 ++ l)) c.to_form.ensures

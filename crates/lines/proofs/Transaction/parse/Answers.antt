@@ -31,9 +31,9 @@ returns-in-83-2 c =
     let is : Err c.misfit.result ≡ meaning s = search rules in
     record { value = is; misfit = misfit_law s _ is; shaped = shaped_law s _ is }
 
-pub returns-in-default : goal.returns-in-default
+pub returns-in_default : goal.returns-in_default
 unfolding meaning
-returns-in-default c =
+returns-in_default c =
     let s = c.args.line.now in
-    let is : Err c.misfit-in-default.result ≡ meaning s = search rules in
+    let is : Err c.misfit-in_default.result ≡ meaning s = search rules in
     record { value = is; misfit = misfit_law s _ is; shaped = shaped_law s _ is }

@@ -9,5 +9,5 @@ returns-in-Some c =
 
 pub returns-in-None : goal.returns-in-None
 returns-in-None c =
-    let past : length c.args.self.now.bytes ≤ c.args.number / 8 = omega (arith, ltb-false, c.in-None.ensures.finds) in
+    let past : length c.args.self.now.bytes ≤ c.args.number / 8 = omega (arith, ltb-false, c.in-None.ensures.lookup) in
     sym (none_past c.args.self.now.bytes c.args.number past)
