@@ -3,7 +3,7 @@ use Rattle.std.proofs.Common.{◌∙◌, arith}
 use Rattle.intake.proofs.Fields.{holds_size, holds_sound}
 use Rattle.intake.proofs.Fills.{filled_is, filled_same, filled_more, room_more, count_all, filled_all}
 use Rattle.intake.proofs.fill.Goals as goal
-use Rattle.intake.proofs.fill.Goals.{in-Some, in-default}
+use Rattle.intake.proofs.fill.Goals.{in-Some, in_default}
 
 pub scan-requires : goal.scan-requires
 scan-requires c = holds_sound c.loop-byte.invariant.1.line c.loop-byte.field.state c.loop-byte.field.bytes.now c.loop-byte.invariant.1.holds
@@ -23,9 +23,9 @@ loop-byte-preserved c =
             let s = w.in-Some.ensures.step f.line f.holds in
             filled_is _ _ _ _ _ _ _ _ _ w.count-is w.table-is
             (filled_more _ _ _ _ _ _ _ f here _ _ _ s (room_more _ _ _ _ _ _ _ f here _ _ _ s (omega (arith, c.requires))))
-        | in-default w ↦
+        | in_default w ↦
             filled_is _ _ _ _ _ _ _ _ _ w.count-is w.table-is
-            (filled_same _ _ _ _ _ _ _ f here _ _ (w.in-default.ensures.step f.line f.holds))
+            (filled_same _ _ _ _ _ _ _ f here _ _ (w.in_default.ensures.step f.line f.holds))
       ],
     )
 

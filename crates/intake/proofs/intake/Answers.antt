@@ -25,10 +25,10 @@ returns c =
     let buffer = c.args.buffer.now in
     let room : ltb (length buffer) 100 ≡ false = le-ltb (length buffer) 100 c.if-buffer-lt-FIELD.false in
     record {
-      answer = c.scan-over.ensures.answer ∙ sym (ap (λ b. answer (b || overfull input table) input) room);
-      filled = c.scan-over.ensures.filled ∙ sym (ap (λ b. filled (b || overfull input table) input table) room);
+      answer = c.scan_over.ensures.answer ∙ sym (ap (λ b. answer (b || overfull input table) input) room);
+      filled = c.scan_over.ensures.filled ∙ sym (ap (λ b. filled (b || overfull input table) input table) room);
       wiped =
-          ap (λ bytes. bytes ++ drop 100 buffer) c.scan-over.ensures.wiped
+          ap (λ bytes. bytes ++ drop 100 buffer) c.scan_over.ensures.wiped
           ∙ sym (ap (λ b. cond b buffer (replicate 100 0 ++ drop 100 buffer)) room);
       cancelled = λ other. entries_struck other input;
     }

@@ -10,8 +10,8 @@ use Rattle.intake.proofs.scan_over.Goals as goal
 entry_count : (input : List ℕ) → length (entries input) ≡ length (confirmed input)
 entry_count input = length-map (confirmed input) entry_of
 
-pub returns-then-table-count-lines : goal.returns-then-table-count-lines
-returns-then-table-count-lines c =
+pub returns-then-table-count_lines : goal.returns-then-table-count_lines
+returns-then-table-count_lines c =
     let over : ltb (length c.args.table.now) (length (entries c.args.input.now)) ≡ true = lt-ltb _ _ (omega (arith, entry_count c.args.input.now)) in
     let blank : c.drop-field.new.self.0 ≡ zeros = c.drop-field.ensures ∙ ap (λ n. replicate n 0) (ap length c.clear.ensures.bytes) in
     record {

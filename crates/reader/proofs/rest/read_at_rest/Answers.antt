@@ -6,19 +6,19 @@ use Rattle.reader.proofs.Wholes.{read_exit}
 use Rattle.reader.proofs.rest.read_at_rest.Goals as goal
 
 pub returns-then-count-lt-BLOCKS : goal.returns-then-count-lt-BLOCKS
-returns-then-count-lt-BLOCKS g c = small_refused _ _ _ _ c.count-count.ensures (omega arith) ∙ ap Err (sym c.too-few-blocks.ensures)
+returns-then-count-lt-BLOCKS g c = small_refused _ _ _ _ c.count-count.ensures (omega arith) ∙ ap Err (sym c.too_few_blocks.ensures)
 
-pub returns-in-default : goal.returns-in-default
-returns-in-default g c =
-    offline_refused _ _ _ _ c.count-count.ensures (omega arith) _ c.in-default.ensures ∙ ap Err (sym c.offline.ensures)
+pub returns-in_default : goal.returns-in_default
+returns-in_default g c =
+    offline_refused _ _ _ _ c.count-count.ensures (omega arith) _ c.in_default.ensures ∙ ap Err (sym c.offline.ensures)
 
-pub returns-in-err-require-free : goal.returns-in-err-require-free
-returns-in-err-require-free g c =
+pub returns-in_err-require_free : goal.returns-in_err-require_free
+returns-in_err-require_free g c =
     read_exit
     _
     _
     _
-    c.from-residual.ensures.1
+    c.from_residual.ensures.1
     (header_refused
     g.K.Kind.code
     g.K.Kind.reading
@@ -29,14 +29,14 @@ returns-in-err-require-free g c =
     _
     c.in-Ok.ensures
     _
-    (c.in-err-require-free.ensures ∙ ap free_or_refused c.read-2.ensures))
+    (c.in_err-require_free.ensures ∙ ap free_or_refused c.read-2.ensures))
 
 pub returns : goal.returns
 returns g c =
     let d = g.D.Device.meaning c.args.device.now in
     let large : 78 ≤ c.count-count.result = omega arith in
     subst
-    (λ a. ReadAs a c.read-through.result)
+    (λ a. ReadAs a c.read_through.result)
     (sym
     (rest_reads
     g.K.Kind.code
@@ -48,5 +48,5 @@ returns g c =
     _
     c.in-Ok.ensures
     _
-    (c.in-ok-require-free.ensures ∙ ap free_or_refused c.read-2.ensures)))
-    (c.read-through.ensures (rest_steady g.K.Kind.code g.K.Kind.reading d _ c.count-count.ensures large _ c.in-Ok.ensures))
+    (c.in_ok-require_free.ensures ∙ ap free_or_refused c.read-2.ensures)))
+    (c.read_through.ensures (rest_steady g.K.Kind.code g.K.Kind.reading d _ c.count-count.ensures large _ c.in-Ok.ensures))

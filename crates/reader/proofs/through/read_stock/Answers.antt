@@ -11,7 +11,7 @@ loop-j-init g c =
 
 pub loop-j-preserved : goal.loop-j-preserved
 loop-j-preserved g c =
-    let size : length c.in-ok-bytes.field-0 ≡ 512 = search rules in
+    let size : length c.in_ok-bytes.field-0 ≡ 512 = search rules in
     λ s.
     stock_more
     _
@@ -24,13 +24,13 @@ loop-j-preserved g c =
     refl
     size
     (c.loop-j.invariant s)
-    (c.in-ok-bytes.ensures s (omega arith))
-    c.put-block.ensures
+    (c.in_ok-bytes.ensures s (omega arith))
+    c.put_block.ensures
 
-pub returns-in-err-bytes : goal.returns-in-err-bytes
-returns-in-err-bytes g c = λ s.
-    ap (result_map_both _ _) (exit_is c.from-residual.ensures.1)
-    ∙ stock_stops _ c.loop-j.j _ _ _ (omega arith) refl (c.loop-j.invariant s) (c.in-err-bytes.ensures s (omega arith))
+pub returns-in_err-bytes : goal.returns-in_err-bytes
+returns-in_err-bytes g c = λ s.
+    ap (result_map_both _ _) (exit_is c.from_residual.ensures.1)
+    ∙ stock_stops _ c.loop-j.j _ _ _ (omega arith) refl (c.loop-j.invariant s) (c.in_err-bytes.ensures s (omega arith))
 
 pub returns : goal.returns
 returns g c = λ s. stock_all _ c.loop-j.j _ (omega arith) (c.loop-j.invariant s)

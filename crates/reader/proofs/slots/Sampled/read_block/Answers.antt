@@ -22,16 +22,16 @@ loop-i-preserved g c = λ view is gathered.
     (omega arith)
     refl
     so
-    (c.in-ok-read-slot.ensures
+    (c.in_ok-read_slot.ensures
     view
-    (slot_there view c.args.j c.loop-i.i _ _ (omega arith) refl is ∙ sym c.slot-in.ensures)
+    (slot_there view c.args.j c.loop-i.i _ _ (omega arith) refl is ∙ sym c.slot_in.ensures)
     so.gathered)
 
-pub returns-in-err-read-slot : goal.returns-in-err-read-slot
-returns-in-err-read-slot g c = λ view is gathered.
+pub returns-in_err-read_slot : goal.returns-in_err-read_slot
+returns-in_err-read_slot g c = λ view is gathered.
     let so = c.loop-i.invariant view is gathered in
     slots_exit
-    c.from-residual.ensures.1
+    c.from_residual.ensures.1
     (so_far_stops
     (slot_fault g.K.Kind.reading view c.args.k _)
     view
@@ -47,9 +47,9 @@ returns-in-err-read-slot g c = λ view is gathered.
     (omega arith)
     refl
     so
-    (c.in-err-read-slot.ensures
+    (c.in_err-read_slot.ensures
     view
-    (slot_there view c.args.j c.loop-i.i _ _ (omega arith) refl is ∙ sym c.slot-in.ensures)
+    (slot_there view c.args.j c.loop-i.i _ _ (omega arith) refl is ∙ sym c.slot_in.ensures)
     so.gathered))
 
 pub returns : goal.returns

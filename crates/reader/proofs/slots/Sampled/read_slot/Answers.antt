@@ -13,14 +13,14 @@ returns g c =
     c.args.block
     c.args.slot
     _
-    c.in-ok-number.number
+    c.in_ok-number.number
     c.remove.new.self.bytes
     c.args.self.now
     c.from.result
     (omega arith)
     (omega arith)
     c.from.ensures
-    c.in-ok-number.ensures
+    c.in_ok-number.ensures
     c.remove.ensures
     there
     gathered
