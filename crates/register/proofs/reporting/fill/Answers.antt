@@ -26,11 +26,11 @@ loop-j-preserved g c = λ s rested.
     (ap (λ n. 512 * n) c.from.ensures)
     (omega (arith, c.requires, c.loop-j.auto.page, c.loop-j-test.true))
     (c.loop-j.invariant s rested)
-    (ok_is (c.in-ok-block.ensures s rested (block_laid _ (omega arith))))
+    (ok_is (c.in_ok-block.ensures s rested (block_laid _ (omega arith))))
     c.put.ensures
 
-pub returns-in-err-block : goal.returns-in-err-block
-returns-in-err-block g c = λ s rested. absurd (err_ok (c.in-err-block.ensures s rested (block_laid _ (omega arith))))
+pub returns-in_err-block : goal.returns-in_err-block
+returns-in_err-block g c = λ s rested. absurd (err_ok (c.in_err-block.ensures s rested (block_laid _ (omega arith))))
 
 pub returns : goal.returns
 returns g c = λ s rested. (refl, shown_all g.K.Kind.code g.K.Kind.form s _ c.loop-j.j _ (omega arith) (c.loop-j.invariant s rested))

@@ -6,25 +6,25 @@ use Rattle.register.proofs.Performing.{prepared_exit}
 use Rattle.register.proofs.StorePlans.{large_refused, unread_refused, check_refused, goes_on_lem, accepts}
 use Rattle.register.proofs.stores.prepare_store.Goals as goal
 
-pub returns-in-err-check-number : goal.returns-in-err-check-number
-returns-in-err-check-number g c =
+pub returns-in_err-check_number : goal.returns-in_err-check_number
+returns-in_err-check_number g c =
     let k = g.K.Kind in
-    prepared_exit _ _ _ c.from-residual.ensures.1
-    (large_refused k.code k.form k.reading _ _ _ _ _ c.in-err-check-number.ensures)
+    prepared_exit _ _ _ c.from_residual.ensures.1
+    (large_refused k.code k.form k.reading _ _ _ _ _ c.in_err-check_number.ensures)
 
-pub returns-in-err-found : goal.returns-in-err-found
-returns-in-err-found g c =
+pub returns-in_err-found : goal.returns-in_err-found
+returns-in_err-found g c =
     let k = g.K.Kind in
-    prepared_exit _ _ _ c.from-residual-in-err-found.ensures.1
-    (unread_refused k.code k.form k.reading _ _ _ _ _ c.in-ok-check-number.ensures _ c.in-err-found.ensures)
+    prepared_exit _ _ _ c.from_residual-in_err-found.ensures.1
+    (unread_refused k.code k.form k.reading _ _ _ _ _ c.in_ok-check_number.ensures _ c.in_err-found.ensures)
 
-pub returns-in-err-check-store : goal.returns-in-err-check-store
-returns-in-err-check-store g c =
+pub returns-in_err-check_store : goal.returns-in_err-check_store
+returns-in_err-check_store g c =
     let k = g.K.Kind in
-    let read = c.in-ok-found.ensures in
-    prepared_exit _ _ _ c.from-residual-in-err-check-store.ensures.1
-    (check_refused k.code k.form k.reading _ _ _ _ _ c.in-ok-check-number.ensures _ _ read.1 read.2 _
-    c.in-err-check-store.ensures)
+    let read = c.in_ok-found.ensures in
+    prepared_exit _ _ _ c.from_residual-in_err-check_store.ensures.1
+    (check_refused k.code k.form k.reading _ _ _ _ _ c.in_ok-check_number.ensures _ _ read.1 read.2 _
+    c.in_err-check_store.ensures)
 
 pub returns : goal.returns
 returns g c =
@@ -34,12 +34,12 @@ returns g c =
     let d = g.D.Device.meaning c.args.device.now in
     let item = c.args.item.now in
     let words = g.S.Source.words c.args.source.now in
-    let small = c.in-ok-check-number.ensures in
-    let read = c.in-ok-found.ensures in
-    let f = c.in-ok-found.found in
+    let small = c.in_ok-check_number.ensures in
+    let read = c.in_ok-found.ensures in
+    let f = c.in_ok-found.found in
     let rest = rested k.code k.form k.reading exact d _ read.1 in
-    let passed = c.in-ok-check-store.ensures in
-    subst (λ p. PlannedAs p c.drawn-store.result)
+    let passed = c.in_ok-check_store.ensures in
+    subst (λ p. PlannedAs p c.drawn_store.result)
     (sym (goes_on_lem k.code k.form k.reading d _ item words _ small f _ read.1 read.2 _ passed))
-    (c.drawn-store.ensures _ rest read.2
+    (c.drawn_store.ensures _ rest read.2
     (accepts k.code k.form k.reading d _ item words _ small f _ read.1 read.2 _ passed rest.storable))

@@ -4,19 +4,19 @@ use Rattle.register.proofs.Held.{ok_is}
 use Rattle.register.proofs.Taking.{slot_is, take_can, took}
 use Rattle.register.proofs.takes.plan_take.Goals as goal
 
-pub returns-in-default : goal.returns-in-default
-returns-in-default g c = λ s rested finds can.
-    let slot = slot_is g.K.Kind.code g.K.Kind.form g.met.K.Kind.sized _ s _ finds _ c.found-slot-slot.ensures in
-    absurd (c.in-default.ensures (take_can g.K.Kind.code g.K.Kind.form g.met.K.Kind.sized _ s _ finds _ slot rested.storable can))
+pub returns-in_default : goal.returns-in_default
+returns-in_default g c = λ s rested finds can.
+    let slot = slot_is g.K.Kind.code g.K.Kind.form g.met.K.Kind.sized _ s _ finds _ c.found_slot-slot.ensures in
+    absurd (c.in_default.ensures (take_can g.K.Kind.code g.K.Kind.form g.met.K.Kind.sized _ s _ finds _ slot rested.storable can))
 
-pub returns-in-err-first : goal.returns-in-err-first
-returns-in-err-first g c = λ s rested finds can.
-    let slot = slot_is g.K.Kind.code g.K.Kind.form g.met.K.Kind.sized _ s _ finds _ c.found-slot-slot.ensures in
-    absurd (err_ok (c.in-err-first.ensures s _ rested (ap (λ n. n.sampled) finds.counts) slot))
+pub returns-in_err-first : goal.returns-in_err-first
+returns-in_err-first g c = λ s rested finds can.
+    let slot = slot_is g.K.Kind.code g.K.Kind.form g.met.K.Kind.sized _ s _ finds _ c.found_slot-slot.ensures in
+    absurd (err_ok (c.in_err-first.ensures s _ rested (ap (λ n. n.sampled) finds.counts) slot))
 
 pub returns : goal.returns
 returns g c = λ s rested finds can.
-    let slot = slot_is g.K.Kind.code g.K.Kind.form g.met.K.Kind.sized _ s _ finds _ c.found-slot-slot.ensures in
+    let slot = slot_is g.K.Kind.code g.K.Kind.form g.met.K.Kind.sized _ s _ finds _ c.found_slot-slot.ensures in
     took
     g.K.Kind.code
     g.K.Kind.form
@@ -30,13 +30,13 @@ returns g c = λ s rested finds can.
     can
     c.in-Some.after.counts
     _
-    c.stock-change-stock.result
-    c.head-change-head.result
+    c.stock_change-stock.result
+    c.head_change-head.result
     c.header.result
     c.get.result
     c.in-Some.ensures.1
-    (ok_is (c.in-ok-first.ensures s _ rested (ap (λ n. n.sampled) finds.counts) slot))
-    c.stock-change-stock.ensures
-    c.head-change-head.ensures
+    (ok_is (c.in_ok-first.ensures s _ rested (ap (λ n. n.sampled) finds.counts) slot))
+    c.stock_change-stock.ensures
+    c.head_change-head.ensures
     c.header.ensures
     c.get.ensures

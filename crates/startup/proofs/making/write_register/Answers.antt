@@ -2,16 +2,16 @@ use Rattle.journal.proofs.Writes.{runs_as, exit_is}
 use Rattle.startup.proofs.MakeWrites.{stops_first, stops_in_zeros, runs_all}
 use Rattle.startup.proofs.making.write_register.Goals as goal
 
-pub returns-in-err-write-all : goal.returns-in-err-write-all
-returns-in-err-write-all g c =
-    stops_first _ c.first-writes.ensures (exit_is c.from-residual.ensures.1) c.in-err-write-all.ensures
+pub returns-in_err-write_all : goal.returns-in_err-write_all
+returns-in_err-write_all g c =
+    stops_first _ c.first_writes.ensures (exit_is c.from_residual.ensures.1) c.in_err-write_all.ensures
 
-pub returns-in-err-write-zeros : goal.returns-in-err-write-zeros
-returns-in-err-write-zeros g c =
-    stops_in_zeros _ c.first-writes.ensures c.in-ok-write-all.ensures
-    (exit_is c.from-residual-in-err-write-zeros.ensures.1) c.in-err-write-zeros.ensures
+pub returns-in_err-write_zeros : goal.returns-in_err-write_zeros
+returns-in_err-write_zeros g c =
+    stops_in_zeros _ c.first_writes.ensures c.in_ok-write_all.ensures
+    (exit_is c.from_residual-in_err-write_zeros.ensures.1) c.in_err-write_zeros.ensures
 
 pub returns : goal.returns
 returns g c =
-    runs_all _ c.first-writes.ensures c.in-ok-write-all.ensures c.in-ok-write-zeros.ensures
-    (runs_as c.block-write.ensures c.write-all-2.ensures)
+    runs_all _ c.first_writes.ensures c.in_ok-write_all.ensures c.in_ok-write_zeros.ensures
+    (runs_as c.block_write.ensures c.write_all-2.ensures)
