@@ -20,11 +20,11 @@ module _ {X Y : Type 0} (own : Kind X) (other : Kind Y) where
     outcome (for_own (report_refused {f} e)) = (report_refused_lem own laws d r keeps page f e, keeps)
     outcome (for_own (report_did {r = q} e)) = (report_done_lem own laws d r keeps page q e, keeps)
     outcome (for_own (open_did call)) = open_law own laws d r keeps page call
-    outcome (for_other (store_did {number} {item} {words} call)) = foreign.store-law own other laws apart d r keeps page number item words call
-    outcome (for_other (take_did {number} call)) = foreign.take-law own other laws apart d r keeps page number call
-    outcome (for_other (report_refused {f} e)) = (foreign.report-refused own other laws apart d r keeps page f e, keeps)
-    outcome (for_other (report_did {r = q} e)) = absurd (foreign.report-never own other laws apart d r keeps page q e)
-    outcome (for_other (open_did call)) = foreign.open-law own other laws apart d r keeps page call
+    outcome (for_other (store_did {number} {item} {words} call)) = foreign.store_law own other laws apart d r keeps page number item words call
+    outcome (for_other (take_did {number} call)) = foreign.take_law own other laws apart d r keeps page number call
+    outcome (for_other (report_refused {f} e)) = (foreign.report_refused_lem own other laws apart d r keeps page f e, keeps)
+    outcome (for_other (report_did {r = q} e)) = absurd (foreign.report_never own other laws apart d r keeps page q e)
+    outcome (for_other (open_did call)) = foreign.open_law own other laws apart d r keeps page call
 
     -- every call has an outcome of the table, and the register stands after it
     pub step_law :

@@ -12,7 +12,7 @@ loop-i-init g c apart r keeps = walked_none _ _ _ _ _ _ _ keeps
 
 pub loop-i-preserved : goal.loop-i-preserved
 loop-i-preserved g c apart r keeps =
-    ran_more _ _ _ _ _ _ _ _ (laws g) apart _ (c.loop-i.invariant apart r keeps) c.loop-i-test.true c.requires c.index-calls-i.is c.perform-call-reply.ensures
+    ran_more _ _ _ _ _ _ _ _ (laws g) apart _ (c.loop-i.invariant apart r keeps) c.loop-i-test.true c.requires c.index-calls-i.is c.perform_call-reply.ensures
     c.put.ensures
 
 pub returns : goal.returns

@@ -3,8 +3,8 @@ use Rattle.journal.proofs.Writes.{exit_is}
 use Rattle.session.proofs.Doing.{does_as, take_does}
 use Rattle.session.proofs.runs.perform_take.Goals as goal
 
-pub returns-in-err-calls : goal.returns-in-err-calls
-returns-in-err-calls g c page = does_as _ (exit_is c.from-residual.ensures.1) (take_does _ _ (Err _) c.in-err-calls.ensures page)
+pub returns-in_err-calls : goal.returns-in_err-calls
+returns-in_err-calls g c page = does_as _ (exit_is c.from_residual.ensures.1) (take_does _ _ (Err _) c.in_err-calls.ensures page)
 
 pub returns : goal.returns
-returns g c page = take_does _ _ (Ok _) c.in-ok-calls.ensures page
+returns g c page = take_does _ _ (Ok _) c.in_ok-calls.ensures page

@@ -7,17 +7,17 @@ use Rattle.session.proofs.runs.resume.Goals as goal
 laws : (g : given.Over) → KindLaws (record { code = g.K.Kind.code; form = g.K.Kind.form; reading = g.K.Kind.reading })
 laws g = let met = g.met.K.Kind in record { known = met.known; sized = met.sized; bounded = met.bounded; round = met.round; exact = met.exact }
 
-pub returns-in-err-check-places : goal.returns-in-err-check-places
-returns-in-err-check-places g c = record { run = λ apart. resume_short _ _ _ _ _ _ _ (exit_is c.from-residual.ensures.1) c.in-err-check-places.ensures }
+pub returns-in_err-check_places : goal.returns-in_err-check_places
+returns-in_err-check_places g c = record { run = λ apart. resume_short _ _ _ _ _ _ _ (exit_is c.from_residual.ensures.1) c.in_err-check_places.ensures }
 
-pub returns-in-err-opened : goal.returns-in-err-opened
-returns-in-err-opened g c = record {
+pub returns-in_err-opened : goal.returns-in_err-opened
+returns-in_err-opened g c = record {
   run = λ apart.
-      resume_unopened _ _ _ _ _ _ _ c.in-ok-check-places.ensures (exit_is c.from-residual-in-err-opened.ensures.1) c.in-err-opened.ensures;
+      resume_unopened _ _ _ _ _ _ _ c.in_ok-check_places.ensures (exit_is c.from_residual-in_err-opened.ensures.1) c.in_err-opened.ensures;
 }
 
 pub returns : goal.returns
 returns g c = record {
   run = λ apart.
-      resume_resumed _ _ _ _ _ _ _ (laws g) c.in-ok-check-places.ensures c.in-ok-opened.ensures (c.perform-all.ensures apart);
+      resume_resumed _ _ _ _ _ _ _ (laws g) c.in_ok-check_places.ensures c.in_ok-opened.ensures (c.perform_all.ensures apart);
 }

@@ -8,17 +8,17 @@ use Rattle.session.proofs.runs.run.Goals as goal
 laws : (g : given.Over) → KindLaws (record { code = g.K.Kind.code; form = g.K.Kind.form; reading = g.K.Kind.reading })
 laws g = let met = g.met.K.Kind in record { known = met.known; sized = met.sized; bounded = met.bounded; round = met.round; exact = met.exact }
 
-pub returns-in-err-check-places : goal.returns-in-err-check-places
-returns-in-err-check-places g c = record { run = λ apart. run_short _ _ _ _ _ _ _ _ (exit_is c.from-residual.ensures.1) c.in-err-check-places.ensures; fair = fairness_holds _ _ (laws g) }
+pub returns-in_err-check_places : goal.returns-in_err-check_places
+returns-in_err-check_places g c = record { run = λ apart. run_short _ _ _ _ _ _ _ _ (exit_is c.from_residual.ensures.1) c.in_err-check_places.ensures; fair = fairness_holds _ _ (laws g) }
 
-pub returns-in-err-make : goal.returns-in-err-make
-returns-in-err-make g c = record {
-  run = λ apart. run_unmade _ _ _ _ _ _ _ c.in-ok-check-places.ensures (exit_is c.from-residual-in-err-make.ensures.1) c.in-err-make.ensures;
+pub returns-in_err-make : goal.returns-in_err-make
+returns-in_err-make g c = record {
+  run = λ apart. run_unmade _ _ _ _ _ _ _ c.in_ok-check_places.ensures (exit_is c.from_residual-in_err-make.ensures.1) c.in_err-make.ensures;
   fair = fairness_holds _ _ (laws g);
 }
 
 pub returns : goal.returns
 returns g c = record {
-  run = λ apart. run_ran _ _ _ _ _ _ _ c.in-ok-check-places.ensures c.in-ok-make.ensures (c.perform-all.ensures apart);
+  run = λ apart. run_ran _ _ _ _ _ _ _ c.in_ok-check_places.ensures c.in_ok-make.ensures (c.perform_all.ensures apart);
   fair = fairness_holds _ _ (laws g);
 }
