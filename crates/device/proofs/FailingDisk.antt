@@ -1,11 +1,11 @@
 -- The failing device's disk, by its entries.
-use Rattle.std.proofs.Common.{◌≡◌, ℕ, zero, suc, ◌<◌, ◌≤◌, min, Bool, true, false, List, [], ◌∷◌, length, get_or, take, set, Ok, Err, sym, refl, ap, ◌∙◌, subst, arith}
+use Rattle.std.proofs.Common.{◌≡◌, ℕ, zero, suc, ◌<◌, min, Bool, true, false, List, [], ◌∷◌, length, get_or, take, set, Ok, Err, sym, refl, ap, ◌∙◌, subst, arith}
 use Rattle.std.proofs.lemmas.List.{length-take, get_or-take, get_or_default}
 use Rattle.device.specs.declared.DeviceError.TheVariants.{Offline}
 use Rattle.device.specs.declared.Entry.{Entry}
 use Rattle.device.specs.declared.Entry.TheVariants.{Bytes, Unreadable}
 use Rattle.device.specs.declared.Remains.{Remains}
-use Rattle.device.specs.Disk.{Disk, blocks, entry_at, put, turned, left_by, Wrote, done, lost, write_done, write_lost}
+use Rattle.device.specs.Disk.{blocks, entry_at, put, turned, left_by, Wrote, done, lost, write_done, write_lost}
 use Rattle.device.specs.FailingDisk.{failing_disk, event_of}
 use Rattle.device.proofs.Disk.{turned_same}
 

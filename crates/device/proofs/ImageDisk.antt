@@ -1,12 +1,11 @@
 -- The image's disk, by its bytes.
-use Rattle.std.proofs.Common.{◌≡◌, ℕ, ◌+◌, ◌-◌, ◌*◌, ◌/◌, ◌<◌, ◌≤◌, min, true, ◌≢◌, ◌⊎◌, List, ◌++◌, map, length, get_or, take, drop, set, sym, refl, ap, ◌∙◌, inl, inr, arith}
-use Rattle.std.specs.List.{range_with_len}
+use Rattle.std.proofs.Common.{◌≡◌, ℕ, ◌+◌, ◌-◌, ◌*◌, ◌/◌, ◌<◌, ◌≤◌, min, true, ◌≢◌, ◌⊎◌, List, ◌++◌, length, get_or, take, drop, set, sym, refl, ap, ◌∙◌, inl, inr, arith}
 use Rattle.std.proofs.lemmas.List.{length-set, length-take, length-drop, length-append, length-take-le, append_assoc, get_or-set_same, get_or-set_other, same_lists, drop_at, take_at, drop-append-le, take-append-le, drop-take, drop-drop, take-take}
 use Rattle.std.proofs.lemmas.List.FromFn.{length-map-range_with_len, get_or-map-range_with_len}
 use Rattle.std.proofs.lemmas.Bool.{cases_order}
 use Rattle.device.specs.declared.Entry.{Entry}
 use Rattle.device.specs.declared.Entry.TheVariants.{Bytes, Unreadable}
-use Rattle.device.specs.Disk.{Disk, blocks, entry_at, put}
+use Rattle.device.specs.Disk.{blocks, entry_at, put}
 use Rattle.device.specs.ImageDisk.{blocks_in, block_in, with_block, disk_in}
 
 pub blocks_disk_in : (bytes : List ℕ) → blocks (disk_in bytes) ≡ blocks_in bytes

@@ -1,19 +1,19 @@
 -- A mirror of two devices is a device.
-use Rattle.std.proofs.Common.{◌≡◌, ℕ, zero, suc, ◌<◌, ◌≤◌, min, Bool, true, false, ◌&&◌, List, [], ◌∷◌, length, get_or, set, Ok, Err, Result, sym, refl, ap, ◌∙◌, subst, arith}
+use Rattle.std.proofs.Common.{◌≡◌, ℕ, zero, suc, ◌<◌, min, Bool, true, false, ◌&&◌, List, [], ◌∷◌, length, get_or, set, Ok, Err, Result, sym, refl, ap, ◌∙◌, subst, arith}
 use Rattle.std.proofs.lemmas.List.{set-set}
 use Rattle.std.proofs.lemmas.Bool.{and_from, and_left, and_right}
 use Rattle.std.specs.Result.{result_and}
 use Rattle.device.specs.declared.Entry.{Entry}
 use Rattle.device.specs.declared.Entry.TheVariants.{Bytes, Unreadable}
 use Rattle.device.specs.declared.DeviceError.{DeviceError}
-use Rattle.device.specs.declared.DeviceError.TheVariants.{Outside, Offline}
+use Rattle.device.specs.declared.DeviceError.TheVariants.{Offline}
 use Rattle.device.specs.declared.Remains.{Remains}
 use Rattle.device.specs.declared.Remains.TheVariants.{Old, New, Unreadable as Gone}
 use Rattle.device.specs.Disk.{Disk, blocks, entry_at, put, turned, reading, left_by, Event, BroughtOnline, came, stayed, Writes, Brings}
 use Rattle.device.specs.MirrorDisk.{preferred, merged, mirror_of, Copied, Ready, WroteBoth}
 use Rattle.device.specs.MirrorDisk.{refused, copy_lost, left_lost, right_last, BroughtBoth, copied, nothing}
 use Rattle.device.proofs.Disk.{turned_same, put_same, blocks_put, wrote_ok, wrote_err, writes_done, writes_lost, writes_refused, brings_done, brings_refused}
-use Rattle.device.proofs.Disk.{reading_ok, reading_err, reading_outside, reading_offline, reading_online}
+use Rattle.device.proofs.Disk.{reading_ok, reading_err, reading_offline, reading_online}
 
 -- ---- its entries
 

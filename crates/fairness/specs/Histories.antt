@@ -1,6 +1,6 @@
 -- Histories of a reservoir, the draws of their stores, and what a history leaves whatever is drawn.
 -- Assumes nothing.
-use Rattle.std.specs.Prelude.{◌≡◌, ℕ, zero, suc, ◌+◌, ◌-◌, ◌<◌, Bool, true, false, cond, ◌&&◌, List, [], ◌∷◌, ◌++◌, map, ◌==◌, nat_lt}
+use Rattle.std.specs.Prelude.{◌≡◌, ℕ, zero, suc, ◌+◌, ◌-◌, ◌<◌, Bool, true, false, ◌&&◌, List, [], ◌∷◌, ◌++◌, map, ◌==◌, nat_lt}
 use Rattle.pairing.specs.Reservoir.{Reservoir, store, taken, with, without, width, width_of}
 use Rattle.pairing.specs.Rules.{bit}
 

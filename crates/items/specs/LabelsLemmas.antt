@@ -1,7 +1,7 @@
 -- Labels with the same sections are the same label.
 -- Assumes nothing.
 use Rattle.std.specs.Prelude.{◌≡◌, ℕ, Bool, true, false, List, [], is_ok, Ok, Err, Result, refl}
-use Rattle.std.proofs.Common.{sym, ap, subst, ◌∙◌}
+use Rattle.std.proofs.Common.{sym, ap, ◌∙◌}
 use mathlib.Core.HLevel.{is_prop→PathP}
 use denote.Struct.Props.{props}
 use Rattle.std.proofs.lemmas.Bool.{both_ways, and_from, false≢true}

@@ -139,7 +139,7 @@ mod tests {
                 Ok(ward) => format!(in heap; "{ward}")?,
                 Err(fault) => format!(in heap; "{fault}")?,
             };
-            assert!(rt; shown.as_str() == expected, "{}", expected);
+            assert!(rt; shown.as_str() == expected, "{shown}");
         }
         Ok(())
     }

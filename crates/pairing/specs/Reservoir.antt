@@ -1,7 +1,7 @@
 -- The reservoir and its two steps, as published: random pairing by Gemulla, Lehner and Haas (2006), and Vitter's Algorithm R (1985)
 -- while there is no deletion to compensate.
 -- Assumes nothing.
-use Rattle.std.specs.Prelude.{ℕ, ◌+◌, ◌-◌, Bool, true, false, cond, not, ◌&&◌, ◌||◌, List, [], ◌∷◌, ◌++◌, length, take, set, Some, None, Option, ◌==◌, nat_lt, slice_index_or, slice_set}
+use Rattle.std.specs.Prelude.{ℕ, ◌+◌, ◌-◌, Bool, false, cond, not, ◌&&◌, ◌||◌, List, [], ◌∷◌, ◌++◌, length, take, Some, None, Option, ◌==◌, nat_lt, slice_index_or, slice_set}
 use Rattle.std.specs.Option.{option_map}
 use Rattle.pairing.specs.declared.Effect.{Effect}
 use Rattle.pairing.specs.declared.Effect.TheVariants.{Enters, Replaces, StaysOut}

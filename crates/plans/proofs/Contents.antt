@@ -3,7 +3,7 @@
 use Rattle.std.proofs.Common.{◌≡◌, ℕ, ◌+◌, ◌-◌, ◌/◌, ◌<◌, ◌≤◌, Bool, true, false, cond, eqb, ltb, ◌≢◌, List, [], ◌∷◌, length, Some, None, Option, sym, refl, ap, ◌∙◌, inl, inr, arith}
 use Rattle.std.proofs.lemmas.Bool.{cond_both, or_parts, eqb-true, eqb-false, ltb-true, ltb-false}
 use Rattle.octets.specs.Zeros.{every}
-use Rattle.pairing.specs.Reservoir.{Slot, Reservoir, store, taken, effect, placed, filled_by, slot_of, slots_after, with, without}
+use Rattle.pairing.specs.Reservoir.{Slot, Reservoir, store, taken, effect, placed, filled_by, slot_of, slots_after, without}
 use Rattle.pairing.specs.Steps.{counts_of}
 use Rattle.pairing.specs.declared.Effect.{Effect}
 use Rattle.pairing.specs.declared.Effect.TheVariants.{Enters, Replaces, StaysOut}

@@ -3,7 +3,7 @@
 use Rattle.std.proofs.Common.{◌≡◌, ℕ, ◌+◌, ◌<◌, ◌≤◌, min, Bool, true, false, cond, ◌||◌, eqb, ◌≢◌, List, [], ◌∷◌, length, Ok, Result, sym, refl, ap, ◌∙◌, inl, inr, arith}
 use Rattle.std.proofs.lemmas.Bool.{eqb-true, eqb-false, ne_eqb, or_from, or_parts, cond_both}
 use Rattle.fault.specs.declared.Fault.{Fault}
-use Rattle.device.specs.Disk.{Disk, blocks, entry_at, put, Event, Wrote}
+use Rattle.device.specs.Disk.{Disk, entry_at, put, Event, Wrote}
 use Rattle.device.specs.Disk.{done}
 use Rattle.device.specs.declared.Entry.TheVariants.{Bytes}
 use Rattle.device.proofs.Disk.{wrote_other, entry_at_put}

@@ -3,10 +3,10 @@ use Rattle.std.proofs.Common.{◌≡◌, ℕ, ◌+◌, ◌<◌, ◌≤◌, min, 
 use Rattle.std.proofs.lemmas.List.{drop_all, drop_more}
 use Rattle.fault.specs.declared.Damage.TheVariants as damage
 use Rattle.fault.specs.declared.Fault.{Fault}
-use Rattle.device.specs.Disk.{Disk, blocks, reading}
+use Rattle.device.specs.Disk.{Disk, reading}
 use Rattle.device.specs.declared.DeviceError.{DeviceError}
 use Rattle.device.specs.declared.Entry.{Entry}
-use Rattle.device.specs.declared.Entry.TheVariants.{Bytes, Unreadable}
+use Rattle.device.specs.declared.Entry.TheVariants.{Bytes}
 use Rattle.device.proofs.Disk.{reading_online}
 use Rattle.layout.specs.Reading.{unless_fault, bytes_of, is_block, readable, unless}
 use Rattle.plans.specs.Views.{place_from, viewed}

@@ -10,7 +10,6 @@ use Rattle.journal.specs.Header.{header_of}
 use Rattle.journal.specs.Writes.{Ran, landed}
 use Rattle.journal.specs.declared.headers.Header.{Header}
 use Rattle.journal.specs.declared.headers.Header.TheVariants as header
-use Rattle.journal.specs.declared.headers.Pending.{Pending}
 use Rattle.journal.proofs.Writes.{ran_blocks, ran_ok}
 use Rattle.layout.specs.Laws.{Storable, ReadsExactly}
 use Rattle.layout.specs.Reading.{decode, block_fault, first_of}

@@ -1,6 +1,6 @@
 -- The law of every run: what any session on any device finds, and that no group of packs is favoured.
 -- Assumes nothing.
-use Rattle.std.specs.Prelude.{◌≡◌, ℕ, ◌+◌, ◌-◌, ◌<◌, ◌≤◌, Bool, true, cond, List, [], ◌∷◌, ◌++◌, map, length, Some, None, Ok, Option, nat_lt, slice_index}
+use Rattle.std.specs.Prelude.{◌≡◌, ℕ, ◌-◌, ◌<◌, ◌≤◌, Bool, true, cond, List, [], ◌∷◌, ◌++◌, map, length, Some, None, Ok, Option, nat_lt, slice_index}
 use Rattle.device.specs.Disk.{Disk, Event, blocks}
 use Rattle.octets.specs.Zeros.{zeros}
 use Rattle.pairing.specs.Reservoir.{Reservoir, empty}

@@ -12,7 +12,7 @@ use Rattle.pairing.specs.Reservoir.{Reservoir, width}
 use Rattle.journal.specs.Header.{header_of}
 use Rattle.journal.specs.declared.headers.Header.{Header}
 use Rattle.journal.specs.declared.headers.Header.TheVariants as header
-use Rattle.session.specs.Calls.{Request, Store, Take, Report, Open, Other}
+use Rattle.session.specs.Calls.{Request, Store, Take, Report, Open}
 
 -- the status of a device: offline; online, with a journal header that is not free; ready
 pub data Status : Type 0 where

@@ -1,6 +1,6 @@
 -- The law of one call: where a register stands, every call has an outcome of the table, and the register stands after it.
 -- Assumes nothing.
-use Rattle.std.specs.Prelude.{◌≡◌, ℕ, List, ◌≢◌}
+use Rattle.std.specs.Prelude.{ℕ, List, ◌≢◌}
 use Rattle.device.specs.Disk.{Disk, Event}
 use Rattle.pairing.specs.Reservoir.{Reservoir}
 use Rattle.session.specs.Calls.{Kind, Call, Reply, DidCall}

@@ -1,5 +1,5 @@
 -- The worked examples of draws. Assumes nothing.
-use Rattle.std.proofs.Common.{◌≡◌, ℕ, ◌+◌, ◌<◌, ◌≤◌, Some, Option, refl, ap, ◌∙◌, add-zero, arith}
+use Rattle.std.proofs.Common.{refl, ap, ◌∙◌, add-zero, arith}
 use Rattle.words.specs.Laws.{Examples}
 use Rattle.words.proofs.Looks.{draw_wide, looked_low, looked_high}
 

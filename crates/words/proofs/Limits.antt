@@ -1,10 +1,9 @@
 -- The limit of a width, and words below the width. Assumes nothing.
-use Rattle.std.proofs.Common.{◌≡◌, ℕ, ◌+◌, ◌*◌, ◌/◌, ◌%◌, ◌^◌, ◌<◌, ◌≤◌, Some, Option, ap, ◌∙◌, add-zero, mul-le-mul_right, mod-eq_of_lt, div-mul-le_self, arith}
+use Rattle.std.proofs.Common.{ℕ, ◌*◌, ◌/◌, ◌^◌, ◌<◌, ◌≤◌, Some, ap, ◌∙◌, add-zero, mul-le-mul_right, mod-eq_of_lt, div-mul-le_self, arith}
 use native.Mathlib.Nat.{mul-mod_left}
 use Rattle.std.proofs.lemmas.Nat.{le-div}
 use Rattle.words.specs.Draws.{limit}
 use Rattle.words.specs.Laws.{LimitLargest, SmallIsDrawn}
-use Rattle.words.specs.declared.draws.Drawn.{Drawn}
 use Rattle.words.proofs.Looks.{draw_wide, looked_low}
 
 pub limit_below : (width : ℕ) → limit width ≤ 2 ^ 32

@@ -2,7 +2,6 @@
 use Rattle.std.proofs.Common.{◌≡◌, ℕ, suc, ◌+◌, ◌-◌, ◌%◌, ◌<◌, ◌≤◌, eqb, ltb, Some, None, Option, sym, ap, ◌∙◌, arith}
 use Rattle.std.proofs.lemmas.Bool.{eq-eqb, ne_eqb, lt-ltb, le-ltb, cond-true, cond-false}
 use Rattle.words.specs.Draws.{limit, judged, looked, draw_of}
-use Rattle.words.specs.declared.draws.Drawn.{Drawn}
 
 module _ (words : ℕ → Option ℕ) (width place : ℕ) where
   -- with width 1

@@ -1,5 +1,5 @@
 -- What a draw's result keeps to. Assumes nothing.
-use Rattle.std.proofs.Common.{◌≡◌, ℕ, zero, suc, ◌+◌, ◌%◌, ◌^◌, ◌<◌, ◌≤◌, ltb, ◌⊎◌, IfOk, Some, None, Option, sym, refl, ap, ◌∙◌, subst, inl, inr, mod-lt, arith}
+use Rattle.std.proofs.Common.{◌≡◌, ℕ, zero, suc, ◌+◌, ◌%◌, ◌^◌, ◌<◌, ◌≤◌, ltb, IfOk, Some, None, Option, sym, refl, ap, ◌∙◌, inl, inr, mod-lt, arith}
 use Rattle.fault.specs.declared.Fault.{Fault}
 use Rattle.std.proofs.lemmas.Bool.{lt-ltb, cond-true, cases_eq}
 use Rattle.std.specs.Option.{ok_or}

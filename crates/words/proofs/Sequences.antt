@@ -1,10 +1,10 @@
 -- All choices of words fall evenly on the draws. Assumes nothing.
-use Rattle.std.proofs.Common.{◌≡◌, ℕ, zero, suc, ◌+◌, ◌-◌, ◌*◌, ◌/◌, ◌%◌, ◌^◌, ◌<◌, ◌≤◌, Bool, true, false, cond, eqb, ltb, ◌⊎◌, List, [], ◌∷◌, length, get_or, drop, Some, None, Option, sym, refl, ap, ◌∙◌, inl, inr, add-mul, one-mul, zero-mul, arith}
+use Rattle.std.proofs.Common.{◌≡◌, ℕ, zero, suc, ◌+◌, ◌-◌, ◌*◌, ◌/◌, ◌%◌, ◌^◌, ◌<◌, ◌≤◌, Bool, true, false, cond, eqb, List, [], ◌∷◌, length, get_or, drop, Some, None, Option, sym, refl, ap, ◌∙◌, inl, inr, add-mul, one-mul, zero-mul, arith}
 use Rattle.std.proofs.lemmas.List.{drop_all, drop_more}
 use Rattle.std.proofs.lemmas.Bool.{lt-ltb, le-ltb, cases_eq}
 use Rattle.std.specs.List.{AllByRecursion as All}
 use Rattle.words.specs.Draws.{limit, judged, looked, draw_of}
-use Rattle.words.specs.Laws.{total, ways, gives, Holds, DrawsAreEven}
+use Rattle.words.specs.Laws.{total, ways, gives, DrawsAreEven}
 use Rattle.words.specs.declared.draws.Drawn.{Drawn}
 use Rattle.words.proofs.Evenness.{total_like, total_parts, mark, rounds}
 use Rattle.words.proofs.Limits.{limit_below}

@@ -1,6 +1,6 @@
 -- Laws of draws: which word gives the draw, and that no draw is favoured.
 -- Assumes nothing.
-use Rattle.std.specs.Prelude.{◌≡◌, ℕ, zero, suc, ◌+◌, ◌*◌, ◌/◌, ◌%◌, ◌^◌, ◌<◌, ◌≤◌, Bool, true, false, cond, ◌⊎◌, List, [], ◌∷◌, length, Some, None, Option, ◌==◌, nat_eq, slice_index}
+use Rattle.std.specs.Prelude.{◌≡◌, ℕ, zero, suc, ◌+◌, ◌*◌, ◌/◌, ◌%◌, ◌^◌, ◌<◌, ◌≤◌, Bool, false, cond, ◌⊎◌, List, [], ◌∷◌, length, Some, None, Option, ◌==◌, nat_eq, slice_index}
 use Rattle.std.specs.List.{AllByRecursion as All}
 use Rattle.words.specs.Draws.{limit, draw_of}
 use Rattle.words.specs.declared.draws.Drawn.{Drawn}

@@ -1,5 +1,5 @@
 -- The buffer has no field, or it has one and the bytes behind stay.
-use Rattle.std.proofs.Common.{◌≡◌, true, false, cond, ◌||◌, ltb, ◌++◌, length, drop, replicate, Err, sym, ap, ◌∙◌}
+use Rattle.std.proofs.Common.{◌≡◌, true, false, cond, ◌||◌, ltb, ◌++◌, length, drop, replicate, sym, ap, ◌∙◌}
 use Rattle.std.proofs.lemmas.Bool.{lt-ltb, le-ltb}
 use Rattle.intake.specs.Intake.{answer, filled, overfull}
 use Rattle.intake.proofs.Strikes.{entries_struck}

@@ -1,5 +1,5 @@
 -- The table has room for the lines, or it is left alone; the guard wipes the field on both ways.
-use Rattle.std.proofs.Common.{◌≡◌, ℕ, true, false, ltb, List, length, replicate, Ok, Err, sym, ap, ◌∙◌, arith, rules}
+use Rattle.std.proofs.Common.{◌≡◌, ℕ, true, false, ltb, List, length, replicate, Ok, sym, ap, ◌∙◌, arith, rules}
 use Rattle.std.proofs.lemmas.List.{length-map}
 use Rattle.std.proofs.lemmas.Bool.{lt-ltb, le-ltb}
 use Rattle.intake.specs.Field.{zeros}

@@ -1,4 +1,4 @@
-use Rattle.std.proofs.Common.{◌≡◌, [], ◌∷◌, length, arith}
+use Rattle.std.proofs.Common.{[], ◌∷◌, length, arith}
 use Rattle.items.specs.Parts.{put_put}
 use Rattle.items.proofs.forms.put_section.Goals as goal
 

@@ -1,4 +1,4 @@
-use Rattle.std.proofs.Common.{◌≡◌, true, false, sym, refl, ap, ◌∙◌}
+use Rattle.std.proofs.Common.{sym, refl, ap, ◌∙◌}
 use Rattle.device.specs.Disk.{turned}
 use Rattle.device.specs.FailingDisk.{failing_disk}
 use Rattle.device.proofs.Disk.{brings_done, brings_refused}

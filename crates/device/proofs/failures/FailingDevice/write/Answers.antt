@@ -1,4 +1,4 @@
-use Rattle.std.proofs.Common.{true, refl, ◌∙◌, arith}
+use Rattle.std.proofs.Common.{refl, ◌∙◌, arith}
 use Rattle.std.proofs.lemmas.Bool.{both_ways}
 use Rattle.device.proofs.Disk.{writes, writes_outside, writes_offline}
 use Rattle.device.proofs.FailingDisk.{online_failing, blocks_failing, failing_done, failing_lost}

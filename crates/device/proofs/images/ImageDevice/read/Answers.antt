@@ -1,4 +1,4 @@
-use Rattle.std.proofs.Common.{◌≡◌, ◌<◌, Ok, sym, ap, ◌∙◌, arith}
+use Rattle.std.proofs.Common.{◌<◌, Ok, sym, ap, ◌∙◌, arith}
 use Rattle.device.specs.declared.Entry.TheVariants.{Bytes}
 use Rattle.device.specs.ImageDisk.{blocks_in, disk_in}
 use Rattle.device.proofs.Disk.{reading_outside, reading_online}

@@ -1,5 +1,4 @@
-use Rattle.std.proofs.Common.{◌≡◌, ◌<◌, Ok, Err, sym, ap, ◌∙◌, arith}
-use Rattle.device.specs.Disk.{blocks}
+use Rattle.std.proofs.Common.{Ok, sym, ap, ◌∙◌, arith}
 use Rattle.device.specs.MirrorDisk.{mirror_of}
 use Rattle.device.proofs.Disk.{reading_outside, exit_is}
 use Rattle.device.proofs.MirrorDisk.{left_refuses, right_refuses, both_read}

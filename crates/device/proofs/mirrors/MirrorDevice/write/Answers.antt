@@ -1,4 +1,4 @@
-use Rattle.std.proofs.Common.{◌≡◌, Err, sym, ap, ◌∙◌, arith}
+use Rattle.std.proofs.Common.{Err, arith}
 use Rattle.device.specs.MirrorDisk.{mirror_of, WroteBoth, refused}
 use Rattle.device.proofs.Disk.{reading_outside, exit_is}
 use Rattle.device.proofs.MirrorDisk.{wrote_both, left_offline, right_offline, ends_copy, ends_left, ends_right}

@@ -1,5 +1,5 @@
 use Rattle.std.proofs.Common.{sym, ◌∙◌}
-use Rattle.items.specs.BoxForms.{after_ward, box_reading}
+use Rattle.items.specs.BoxForms.{after_ward}
 use Rattle.items.specs.BoxForm.{reading_none, reading_some}
 use Rattle.items.proofs.ward_box.kind.WardBoxKind.from_form.Goals as goal
 
