@@ -1,7 +1,7 @@
 -- The laws of the journal header.
 -- Assumes nothing.
 use Rattle.std.proofs.Common.{◌≡◌, ℕ, ◌+◌, ◌^◌, ◌<◌, ◌≤◌, Bool, true, false, cond, ◌&&◌, eqb, ltb, leb, List, [], ◌∷◌, ◌++◌, length, get_or, take, drop, Some, None, codes, Option, sym, refl, ap, ◌∙◌, subst, append-nil, arith, eq-eqb, eqb-true, le-leb, leb-true}
-use Rattle.std.specs.List.{AllByRecursion as All}
+use Rattle.std.specs.List.{AllByRecursion}
 use Rattle.std.specs.Str.{bytes_eq}
 use Rattle.std.proofs.lemmas.Slice.Eq.{bytes_eq-Decides}
 use Rattle.std.proofs.lemmas.List.{drop_more, drop_all}
@@ -141,7 +141,7 @@ headers_read_back = record {
 
 -- ---- what bytes that read as pending are
 
-module _ (bs : List ℕ) (sized : length bs ≡ 512) (small : All (λ b. b < 256) bs) where
+module _ (bs : List ℕ) (sized : length bs ≡ 512) (small : AllByRecursion (λ b. b < 256) bs) where
   number_part : (at count next : ℕ) → at + count ≡ next → at + count ≤ 512 → drop at bs ≡ little count (number_at bs at count) ++ drop next bs
   number_part at count next e h = cut bs _ _ at count next e (bytes_there bs at count (omega arith) (under_all bs small)) refl
 
@@ -292,7 +292,7 @@ read_free false true (Some q) e = absurd (let z : ◌≡◌ {A = ℕ} 0 1 = cc i
 read_free false false o e = absurd (let z : ◌≡◌ {A = ℕ} 0 1 = cc in omega arith)
 
 exact_pending :
-    (bs : List ℕ) (p : Pending) → length bs ≡ 512 → All (λ b. b < 256) bs → header_of (Bytes bs) ≡ header.Pending p →
+    (bs : List ℕ) (p : Pending) → length bs ≡ 512 → AllByRecursion (λ b. b < 256) bs → header_of (Bytes bs) ≡ header.Pending p →
     Lawful p × (bs ≡ pending_bytes p)
 unfolding header_of
 exact_pending bs p sized small is =

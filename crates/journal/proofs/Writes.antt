@@ -1,7 +1,7 @@
 -- What follows from a run of writes.
 -- Assumes nothing.
 use Rattle.std.proofs.Common.{◌≡◌, ℕ, zero, suc, ◌+◌, ◌<◌, true, false, List, [], ◌∷◌, ◌++◌, length, get_or, drop, replicate, IsErrAnd, Ok, Err, Result, sym, refl, ap, ◌∙◌, subst, arith}
-use Rattle.std.specs.List.{AllByRecursion as All}
+use Rattle.std.specs.List.{AllByRecursion}
 use Rattle.std.proofs.lemmas.List.{drop_more}
 use Rattle.std.proofs.lemmas.Bool.{both_ways}
 use Rattle.std.proofs.lemmas.Result.{err_from_is_err_and}
@@ -102,7 +102,7 @@ ran_same (stops h) (goes_on k s) = absurd (never_done h refl)
 ran_same (stops h) (stops k) = (refl, (wrote_same h k).1)
 
 pub inside_moved : (ws : List Write) (d d₁ : Disk) → blocks d₁ ≡ blocks d → Inside ws d → Inside ws d₁
-inside_moved ws d d₁ e h = subst (λ n. All (λ w. w.block < n) ws) (sym e) h
+inside_moved ws d d₁ e h = subst (λ n. AllByRecursion (λ w. w.block < n) ws) (sym e) h
 
 -- after a refusal on a device that has the blocks, the device is offline
 pub ran_offline :

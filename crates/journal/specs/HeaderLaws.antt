@@ -1,7 +1,7 @@
 -- The laws of the journal header: there and back.
 -- Assumes nothing.
 use Rattle.std.specs.Prelude.{◌≡◌, ℕ, ◌^◌, ◌<◌, ◌≤◌, List, length, slice_index, slice_index_or}
-use Rattle.std.specs.List.{AllByRecursion as All}
+use Rattle.std.specs.List.{AllByRecursion}
 use Rattle.device.specs.declared.Entry.TheVariants.{Bytes}
 use Rattle.journal.specs.declared.headers.Header.TheVariants as header
 use Rattle.journal.specs.declared.headers.Pending.{Pending}
@@ -43,5 +43,5 @@ pub record HeadersReadBack : Type 0 where
 pub record HeadersAreExact : Type 0 where
   pub free : (bs : List ℕ) → header_of (Bytes bs) ≡ header.Free → bs ≡ free_bytes
   pub pending :
-      (bs : List ℕ) (p : Pending) → length bs ≡ 512 → All (λ b. b < 256) bs → header_of (Bytes bs) ≡ header.Pending p →
+      (bs : List ℕ) (p : Pending) → length bs ≡ 512 → AllByRecursion (λ b. b < 256) bs → header_of (Bytes bs) ≡ header.Pending p →
       Lawful p × (bs ≡ pending_bytes p)

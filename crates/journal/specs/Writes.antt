@@ -1,7 +1,7 @@
 -- Runs of writes on a device: what they answer and change, and the writes of a commit and of a replay.
 -- Assumes nothing.
 use Rattle.std.specs.Prelude.{◌≡◌, ℕ, zero, suc, ◌+◌, ◌<◌, min, Bool, true, false, ◌≢◌, List, [], ◌∷◌, ◌++◌, Ok, Err, Result}
-use Rattle.std.specs.List.{AllByRecursion as All}
+use Rattle.std.specs.List.{AllByRecursion}
 use Rattle.fault.specs.declared.Fault.{Fault}
 use Rattle.fault.specs.Refusals.{offline}
 use Rattle.device.specs.declared.DeviceError.{DeviceError}
@@ -60,11 +60,11 @@ puts (w ∷ ws) d = puts ws (put d w.block (entry.Bytes w.bytes))
 
 -- the disk has the block of each write
 abbrev pub Inside : List Write → Disk → Type 0
-Inside ws d = All (λ w. w.block < blocks d) ws
+Inside ws d = AllByRecursion (λ w. w.block < blocks d) ws
 
 -- no write is to block k
 abbrev pub Spares : ℕ → List Write → Type 0
-Spares k ws = All (λ w. k ≢ w.block) ws
+Spares k ws = AllByRecursion (λ w. k ≢ w.block) ws
 
 -- ---- the writes of a commit and of a replay
 

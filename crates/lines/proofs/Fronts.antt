@@ -1,6 +1,6 @@
 -- The front of a text and the shape of a field: where a field ends, and that this rests on no byte past the next.
 use Rattle.std.proofs.Common.{◌≡◌, ℕ, zero, suc, ◌+◌, ◌<◌, ◌≤◌, Bool, true, false, cond, ◌&&◌, eqb, leb, ◌⊎◌, List, [], ◌∷◌, ◌++◌, length, Ok, sym, refl, ap, ◌∙◌, inl, inr, arith}
-use Rattle.std.specs.List.{AllByRecursion as All}
+use Rattle.std.specs.List.{AllByRecursion}
 use Rattle.std.proofs.lemmas.Bool.{cond-true, cond-false, and_parts, and_from, eqb-true, leb-true, leb-false, le-leb, true≢false}
 use Rattle.lines.specs.declared.Field.{Field}
 use Rattle.lines.specs.declared.Field.TheVariants.{Number, Code, Batch, Expiry}
@@ -9,7 +9,7 @@ use Rattle.lines.specs.Meaning.{run, dash, misfit, front}
 
 -- every byte fits the field
 abbrev pub Fit : Field → List ℕ → Type 0
-Fit f xs = All (λ b. fits f b ≡ true) xs
+Fit f xs = AllByRecursion (λ b. fits f b ≡ true) xs
 
 -- ---- runs
 

@@ -1,7 +1,7 @@
 -- The number that digits write.
 use Rattle.std.proofs.Common.{◌≡◌, ℕ, ◌+◌, ◌-◌, ◌*◌, ◌^◌, ◌<◌, ◌≤◌, true, List, length, get_or, take, sym, ap, ◌∙◌, inl, inr, add-one, arith}
 use native.Mathlib.Nat.{pow-succ'}
-use Rattle.std.specs.List.{AllByRecursion as All}
+use Rattle.std.specs.List.{AllByRecursion}
 use Rattle.std.proofs.ByRecursion.{All-get_or}
 use Rattle.std.proofs.lemmas.List.{take_all}
 use Rattle.std.proofs.lemmas.List.Sums.{fold_more}
@@ -11,7 +11,7 @@ use Rattle.std.specs.Char.{is_ascii_digit}
 use Rattle.lines.specs.Grammar.{Written, value}
 
 -- the digits of a number, of which there are at most five
-pub digits : (xs : List ℕ) → Written Number xs → All (λ b. is_ascii_digit b ≡ true) xs × (length xs ≤ 5)
+pub digits : (xs : List ℕ) → Written Number xs → AllByRecursion (λ b. is_ascii_digit b ≡ true) xs × (length xs ≤ 5)
 digits xs (inl w) = (w.0, w.2)
 digits xs (inr w) = absurd (false≢true w.0)
 

@@ -2,7 +2,7 @@
 -- Assumes nothing.
 use Rattle.std.specs.Prelude.{◌≡◌, ℕ, ◌+◌, ◌-◌, ◌*◌, ◌<◌, ◌≤◌, Bool, true, false, cond, ◌⊎◌, List, [], ◌∷◌, ◌++◌, length, take, codes, fold, ◌==◌}
 use Rattle.std.specs.Char.{is_ascii_digit, is_ascii_alphanumeric}
-use Rattle.std.specs.List.{AllByRecursion as All}
+use Rattle.std.specs.List.{AllByRecursion}
 use Rattle.lines.specs.declared.Field.{Field}
 use Rattle.lines.specs.declared.Field.TheVariants.{Number, Code, Batch, Expiry}
 
@@ -39,7 +39,7 @@ optional Expiry = true
 -- xs is written in the shape of the field f
 abbrev pub Written : Field → List ℕ → Type 0
 Written f xs =
-    (All (λ b. fits f b ≡ true) xs × (least f ≤ length xs) × (length xs ≤ most f)) ⊎ ((optional f ≡ true) × (xs ≡ 45 ∷ []))
+    (AllByRecursion (λ b. fits f b ≡ true) xs × (least f ≤ length xs) × (length xs ≤ most f)) ⊎ ((optional f ≡ true) × (xs ≡ 45 ∷ []))
 
 -- the number that digits write
 abbrev pub value : List ℕ → ℕ

@@ -1,7 +1,7 @@
 -- Lists of bytes: each below 256.
 -- Assumes nothing.
 use Rattle.std.proofs.Common.{◌≡◌, ℕ, zero, suc, ◌<◌, true, ltb, List, [], ◌∷◌, ◌++◌, get_or, take, drop, refl, arith}
-use Rattle.std.specs.List.{AllByRecursion as All}
+use Rattle.std.specs.List.{AllByRecursion}
 use Rattle.std.proofs.lemmas.Bool.{and_from, and_parts, lt-ltb, ltb-true}
 use Rattle.octets.specs.Zeros.{every, zeros}
 
@@ -23,7 +23,7 @@ pub under_from : (xs : List ℕ) → ((i : ℕ) → get_or xs i 0 < 256) → Und
 under_from [] h = refl
 under_from (x ∷ xs) h = and_from _ _ (lt-ltb x 256 (h 0)) (under_from xs (λ i. h (suc i)))
 
-pub under_all : (xs : List ℕ) → All (λ b. b < 256) xs → Under256 xs
+pub under_all : (xs : List ℕ) → AllByRecursion (λ b. b < 256) xs → Under256 xs
 under_all [] h = refl
 under_all (x ∷ xs) h = and_from _ _ (lt-ltb x 256 h.0) (under_all xs h.1)
 

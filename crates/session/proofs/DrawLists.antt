@@ -1,7 +1,7 @@
 -- Counts over the draw lists of the widths above 1: a width of 1 has one draw.
 -- Assumes nothing.
 use Rattle.std.proofs.Common.{◌≡◌, ℕ, ◌+◌, ◌≤◌, Bool, true, false, cond, ltb, List, [], ◌∷◌, get_or, drop, sym, refl, ap, ◌∙◌, arith}
-use Rattle.std.specs.List.{AllByRecursion as All}
+use Rattle.std.specs.List.{AllByRecursion}
 use Rattle.std.proofs.lemmas.Bool.{ltb-false}
 use Rattle.words.specs.Laws.{total}
 use Rattle.words.proofs.Evenness.{total_like}
@@ -25,7 +25,7 @@ filled [] ds = []
 filled (w ∷ ws) ds = cond (ltb 1 w) (get_or ds 0 0 ∷ filled ws (drop 1 ds)) (0 ∷ filled ws ds)
 
 pub count_filled :
-    (t : List ℕ → Bool) (ws : List ℕ) → All (λ w. 1 ≤ w) ws → count t (draw_lists ws) ≡ count (λ ds. t (filled ws ds)) (draw_lists (above_one ws))
+    (t : List ℕ → Bool) (ws : List ℕ) → AllByRecursion (λ w. 1 ≤ w) ws → count t (draw_lists ws) ≡ count (λ ds. t (filled ws ds)) (draw_lists (above_one ws))
 unfolding total
 count_filled t [] h = refl
 count_filled t (w ∷ ws) h = by (ltb 1 w) refl (λ d. count_filled (λ ds. t (d ∷ ds)) ws h.1) where

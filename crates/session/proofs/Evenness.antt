@@ -1,7 +1,7 @@
 -- Two groups of packs are found under equally many draw lists exactly when their weights are equal.
 -- Assumes nothing.
 use Rattle.std.proofs.Common.{◌≡◌, ℕ, ◌≤◌, Bool, ltb, List, [], ◌∷◌, sym, ap, ◌∙◌, subst, arith}
-use Rattle.std.specs.List.{AllByRecursion as All}
+use Rattle.std.specs.List.{AllByRecursion}
 use Rattle.std.proofs.lemmas.Bool.{cond_both}
 use Rattle.device.specs.Disk.{Disk}
 use Rattle.octets.specs.Zeros.{zeros}
@@ -23,9 +23,9 @@ use Rattle.session.proofs.Tapes.{Tape, zeros_tape, draws_tape, tape_begins}
 pub kept_empty : {X : Type 0} (m : ℕ) → Kept {X = X} m 0 0 fairness.none (empty m)
 kept_empty m = record { keeps = keeps_empty 32768 m; room = omega arith }
 
-pub all_above : (P : ℕ → Type 0) (ws : List ℕ) → All P ws → All P (above_one ws)
+pub all_above : (P : ℕ → Type 0) (ws : List ℕ) → AllByRecursion P ws → AllByRecursion P (above_one ws)
 all_above P [] h = tt
-all_above P (w ∷ ws) h = cond_both (ltb 1 w) (w ∷ above_one ws) (above_one ws) (All P) (λ e. (h.0, all_above P ws h.1)) (λ e. all_above P ws h.1)
+all_above P (w ∷ ws) h = cond_both (ltb 1 w) (w ∷ above_one ws) (above_one ws) (AllByRecursion P) (λ e. (h.0, all_above P ws h.1)) (λ e. all_above P ws h.1)
 
 module _ {X Y : Type 0} (own : Kind X) (other : Kind Y) (plan : Plan) (d : Disk) (page : List ℕ) (m : ℕ) (calls : List (Call X Y)) (n : ℕ)
     (zero : Session own other plan (zeros n) d page m calls) where

@@ -1,7 +1,7 @@
 -- The committed calls of a session as a history: what it needs of the tape, and the reservoir that it leaves.
 -- Assumes nothing.
 use Rattle.std.proofs.Common.{◌≡◌, ℕ, suc, ◌+◌, ◌-◌, ◌%◌, ◌<◌, ◌≤◌, Bool, true, false, cond, ltb, List, [], ◌∷◌, length, get_or, drop, Some, Option, sym, refl, ap, ◌∙◌, subst, add-zero, mod-lt, mod-eq_of_lt, arith}
-use Rattle.std.specs.List.{AllByRecursion as All}
+use Rattle.std.specs.List.{AllByRecursion}
 use Rattle.std.proofs.lemmas.Bool.{cond_both, lt-ltb, le-ltb, ltb-true}
 use Rattle.words.specs.Draws.{draw_of}
 use Rattle.words.specs.declared.draws.Drawn.{Drawn}
@@ -85,8 +85,8 @@ taken_words r p = refl
 
 pub record Bounded {X : Type 0} (n place : ℕ) (m s d : ℕ) (st : ℕ → Bool) (h : List (Call X)) : Type 0 where
   pub possible : Possible st h
-  pub least : All (λ w. 1 ≤ w) (widths m s d h)
-  pub most : All (λ w. w ≤ 32768) (widths m s d h)
+  pub least : AllByRecursion (λ w. 1 ≤ w) (widths m s d h)
+  pub most : AllByRecursion (λ w. w ≤ 32768) (widths m s d h)
   pub few : length (above_one (widths m s d h)) ≤ n - place
 
 module _ {n w k : ℕ} {words : ℕ → Option ℕ} where

@@ -2,7 +2,7 @@
 -- Assumes nothing.
 use Rattle.std.proofs.Common.{◌≡◌, ℕ, zero, suc, ◌+◌, ◌-◌, ◌%◌, ◌<◌, ◌≤◌, ltb, List, length, get_or, Some, None, Option, sym, refl, ap, ◌∙◌, subst, inl, inr, add-zero, zero-add, arith, length-append}
 use lib.ListN.{length-replicate, get_or-replicate}
-use Rattle.std.specs.List.{AllByRecursion as All}
+use Rattle.std.specs.List.{AllByRecursion}
 use Rattle.std.proofs.lemmas.List.{get_or_append_left, get_or-append_right}
 use Rattle.std.proofs.lemmas.Bool.{cases_eq, cases_lt, cond-true, cond-false, lt-ltb, le-ltb}
 use Rattle.octets.specs.Zeros.{zeros}
@@ -69,12 +69,12 @@ below_long : {ws ds : List ℕ} → Below ws ds → length ds ≡ length ws
 below_long none = refl
 below_long (next l b) = ap suc (below_long b)
 
-below_small : {ws ds : List ℕ} → Below ws ds → All (λ w. w ≤ 32768) ws → (k : ℕ) → k < length ds → get_or ds k 0 < 32768
+below_small : {ws ds : List ℕ} → Below ws ds → AllByRecursion (λ w. w ≤ 32768) ws → (k : ℕ) → k < length ds → get_or ds k 0 < 32768
 below_small none most k l = absurd (omega arith)
 below_small (next l b) most zero h = omega (arith, most.0)
 below_small (next l b) most (suc k) h = below_small b most.1 k (omega arith)
 
-module _ (n : ℕ) {ws ds : List ℕ} (below : Below ws ds) (most : All (λ w. w ≤ 32768) ws) (few : length ws ≤ n) where
+module _ (n : ℕ) {ws ds : List ℕ} (below : Below ws ds) (most : AllByRecursion (λ w. w ≤ 32768) ws) (few : length ws ≤ n) where
   tape_long : length (tape_of n ds) ≡ n
   tape_long = omega (arith, length-append ds (zeros (n - length ds)), length-replicate {A = ℕ} (n - length ds) 0, below_long below)
 

@@ -1,8 +1,8 @@
--- All choices of words fall evenly on the draws. Assumes nothing.
+-- AllByRecursion choices of words fall evenly on the draws. Assumes nothing.
 use Rattle.std.proofs.Common.{◌≡◌, ℕ, zero, suc, ◌+◌, ◌-◌, ◌*◌, ◌/◌, ◌%◌, ◌^◌, ◌<◌, ◌≤◌, Bool, true, false, cond, eqb, List, [], ◌∷◌, length, get_or, drop, Some, None, Option, sym, refl, ap, ◌∙◌, inl, inr, add-mul, one-mul, zero-mul, arith}
 use Rattle.std.proofs.lemmas.List.{drop_all, drop_more}
 use Rattle.std.proofs.lemmas.Bool.{lt-ltb, le-ltb, cases_eq}
-use Rattle.std.specs.List.{AllByRecursion as All}
+use Rattle.std.specs.List.{AllByRecursion}
 use Rattle.words.specs.Draws.{limit, judged, looked, draw_of}
 use Rattle.words.specs.Laws.{total, ways, gives, DrawsAreEven}
 use Rattle.words.specs.declared.draws.Drawn.{Drawn}
@@ -22,7 +22,7 @@ unfolding total
 total_times f k zero = sym (zero-mul k)
 total_times f k (suc n) = omega (arith, total_times f k n, add-mul (f n) (total f n) k)
 
-ways_like : (n : ℕ) (p q : List ℕ → Bool) → ((vs : List ℕ) → length vs ≡ n → All (λ v. v < 2 ^ 32) vs → p vs ≡ q vs) → ways n p ≡ ways n q
+ways_like : (n : ℕ) (p q : List ℕ → Bool) → ((vs : List ℕ) → length vs ≡ n → AllByRecursion (λ v. v < 2 ^ 32) vs → p vs ≡ q vs) → ways n p ≡ ways n q
 unfolding ways
 ways_like zero p q same = ap (λ b. cond b 1 0) (same [] refl tt)
 ways_like (suc n) p q same =

@@ -1,7 +1,7 @@
 -- Laws of draws: which word gives the draw, and that no draw is favoured.
 -- Assumes nothing.
 use Rattle.std.specs.Prelude.{◌≡◌, ℕ, zero, suc, ◌+◌, ◌*◌, ◌/◌, ◌%◌, ◌^◌, ◌<◌, ◌≤◌, Bool, false, cond, ◌⊎◌, List, [], ◌∷◌, length, Some, None, Option, ◌==◌, nat_eq, slice_index}
-use Rattle.std.specs.List.{AllByRecursion as All}
+use Rattle.std.specs.List.{AllByRecursion}
 use Rattle.words.specs.Draws.{limit, draw_of}
 use Rattle.words.specs.declared.draws.Drawn.{Drawn}
 
@@ -74,7 +74,7 @@ gives draw (Some drawn) = drawn.value == draw
 -- whatever words are chosen, the source then has them, in their order, from the place on
 abbrev pub Holds : (List ℕ → ℕ → Option ℕ) → ℕ → Type 0
 Holds source place =
-    (vs : List ℕ) → All (λ v. v < 2 ^ 32) vs → (i : ℕ) → i < length vs → source vs (place + i) ≡ Some (slice_index vs i)
+    (vs : List ℕ) → AllByRecursion (λ v. v < 2 ^ 32) vs → (i : ℕ) → i < length vs → source vs (place + i) ≡ Some (slice_index vs i)
 
 -- of all choices of 64 words, each draw comes from as many as any other
 abbrev pub DrawsAreEven : Type 0
