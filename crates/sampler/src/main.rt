@@ -11,6 +11,7 @@ mod windows;
 
 use anyhow::anyhow;
 use std::env;
+use std::process::ExitCode;
 
 const USAGE: &str = "usage: sampler intake [FILE]
        sampler make IMAGE CAPACITY label|box
@@ -19,12 +20,12 @@ const USAGE: &str = "usage: sampler intake [FILE]
        sampler same IMAGE IMAGE label|box
        sampler demo";
 
-fn main(rt: HostRuntime) -> anyhow::Result<()> {
+fn main(rt: HostRuntime) -> anyhow::Result<ExitCode> {
     match run(&rt) {
-        Ok(()) => Ok(()),
+        Ok(()) => Ok(ExitCode::SUCCESS),
         Err(why) => {
             eprintln!(rt; "sampler: {why}")?;
-            Err(why)
+            Ok(ExitCode::FAILURE)
         }
     }
 }

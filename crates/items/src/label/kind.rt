@@ -1,7 +1,7 @@
 ghost use Rattle.items.specs.Forms.{label_form, label_reading};
 ghost use Rattle.items.specs.LabelForm.{label_sized, label_round, label_exact};
 ghost use Rattle.items.specs.FormBytes.{label_bounded};
-ghost use Rattle.std.proofs.Common.{rules, arith};
+ghost use Rattle.std.proofs.Common.{inl, refl};
 
 use crate::forms::{put_section, section};
 use crate::kind::Kind;
@@ -16,7 +16,7 @@ impl Kind for Label {
 
     ghost reading = { label_reading };
 
-    ghost known = { first_of (Prim.search rules, Prim.grind (arith, Self.row.coded.inj)) };
+    ghost known = { inl refl };
 
     ghost sized = { label_sized };
 

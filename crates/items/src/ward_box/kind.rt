@@ -3,7 +3,7 @@ ghost use Rattle.std.proofs.Math.Seq.{paste};
 ghost use Rattle.items.specs.BoxForms.{box_form, box_reading, difference_form, ended, with_difference, after_ward};
 ghost use Rattle.items.specs.BoxForm.{box_sized, box_round, box_exact};
 ghost use Rattle.items.specs.FormBytes.{box_bounded};
-ghost use Rattle.std.proofs.Common.{rules, arith};
+ghost use Rattle.std.proofs.Common.{inr, refl};
 
 use crate::forms::{put, put_section, section};
 use crate::kind::Kind;
@@ -18,7 +18,7 @@ impl Kind for WardBox {
 
     ghost reading = { box_reading };
 
-    ghost known = { first_of (Prim.search rules, Prim.grind (arith, Self.row.coded.inj)) };
+    ghost known = { inr refl };
 
     ghost sized = { box_sized };
 
