@@ -5,8 +5,8 @@ usage: python3 tools/respell_names.py          at the top of the repository, aft
 
 Functions, lemmas, fields and constructors get snake case (drawOf and draw-of become draw_of), types and facts
 upper camel case (Limit-largest becomes LimitLargest). A file's names are those that it defines and those that it
-imports from a crate of this repository; names of the library stay. Names that fall together are printed, and
-nothing is written then.
+imports from a crate of this repository; names of the library stay. Where two names of a file fall together, they
+are printed and nothing is written; a line 'also there' names a file that is written, to be read.
 """
 import collections
 import glob
