@@ -1,14 +1,12 @@
 -- What follows from the meaning of a device's calls: for the devices of this crate, and for the crates above.
-use Rattle.std.proofs.Common.{◌≡◌, ℕ, ◌<◌, ◌≤◌, Bool, true, false, cond, ltb, ◌≢◌, List, [], ◌∷◌, length, IsErrAnd, Ok, Err, Result, sym, refl, ap, ◌∙◌, subst, arith}
+use Rattle.std.proofs.Common.{◌≡◌, ℕ, ◌<◌, ◌≤◌, Bool, true, false, cond, ltb, ◌≢◌, List, [], ◌∷◌, length, IsErrAnd, Ok, Err, Result, sym, refl, ap, ◌∙◌, subst, arith, Some, None}
 use Rattle.std.proofs.lemmas.List.{length-set, get_or-set_same, get_or-set_other, set-get_or}
 use Rattle.std.proofs.lemmas.Bool.{lt-ltb, le-ltb, ltb-true, ltb-false, cond-true, cond-false, both_ways}
 use Rattle.std.proofs.lemmas.Result.{err_from_is_err_and}
-use Rattle.device.specs.declared.Entry.{Entry}
-use Rattle.device.specs.declared.Entry.TheVariants as entry
 use Rattle.device.specs.declared.DeviceError.{DeviceError}
 use Rattle.device.specs.declared.DeviceError.TheVariants.{Outside, Offline}
 use Rattle.device.specs.declared.Remains.{Remains}
-use Rattle.device.specs.Disk.{Disk, blocks, entry_at, put, turned, reading, Event, left_by, Wrote, BroughtOnline, Writes, Brings}
+use Rattle.device.specs.Disk.{Entry, Disk, blocks, entry_at, put, turned, reading, Event, left_by, Wrote, BroughtOnline, Writes, Brings}
 use Rattle.device.specs.Disk.{write_done, write_lost, online_done, online_refused}
 use Rattle.device.specs.Disk.{outside, offline, done, lost, came, stayed}
 
@@ -18,16 +16,16 @@ pub turned_same : (d : Disk) (o : Bool) → d.online ≡ o → turned d o ≡ d
 turned_same d o e = λ i. record { entries = d.entries; online = sym e i }
 
 pub put_same : (d : Disk) (b : ℕ) → put d b (entry_at d b) ≡ d
-put_same d b = λ i. record { entries = set-get_or d.entries b entry.Unreadable i; online = d.online }
+put_same d b = λ i. record { entries = set-get_or d.entries b None i; online = d.online }
 
 pub blocks_put : (d : Disk) (b : ℕ) (e : Entry) → blocks (put d b e) ≡ blocks d
 blocks_put d b e = length-set d.entries b e
 
 pub entry_at_put : (d : Disk) (b : ℕ) (e : Entry) → b < blocks d → entry_at (put d b e) b ≡ e
-entry_at_put d b e h = get_or-set_same d.entries b e entry.Unreadable h
+entry_at_put d b e h = get_or-set_same d.entries b e None h
 
 pub entry_at_put_other : (d : Disk) (b k : ℕ) (e : Entry) → k ≢ b → entry_at (put d b e) k ≡ entry_at d k
-entry_at_put_other d b k e h = get_or-set_other d.entries b k e entry.Unreadable h
+entry_at_put_other d b k e h = get_or-set_other d.entries b k e None h
 
 -- ---- Read
 
@@ -73,20 +71,20 @@ module _ {d : Disk} {b : ℕ} {new : List ℕ} where
   pub wrote_blocks : {a : Result (Unit {0}) DeviceError} {es : List Event} {d' : Disk} → Wrote d b new a es d' → blocks d' ≡ blocks d
   wrote_blocks (outside h) = refl
   wrote_blocks (offline h o) = refl
-  wrote_blocks (done h o) = blocks_put d b (entry.Bytes new)
+  wrote_blocks (done h o) = blocks_put d b (Some new)
   wrote_blocks (lost m h o) = blocks_put d b (left_by m (entry_at d b) new)
 
   -- no write changes another block
   pub wrote_other : {a : Result (Unit {0}) DeviceError} {es : List Event} {d' : Disk} → Wrote d b new a es d' → (k : ℕ) → k ≢ b → entry_at d' k ≡ entry_at d k
   wrote_other (outside h) k n = refl
   wrote_other (offline h o) k n = refl
-  wrote_other (done h o) k n = entry_at_put_other d b k (entry.Bytes new) n
+  wrote_other (done h o) k n = entry_at_put_other d b k (Some new) n
   wrote_other (lost m h o) k n = entry_at_put_other d b k (left_by m (entry_at d b) new) n
 
   -- a write that is done
   pub wrote_ok :
       {u : Unit {0}} {es : List Event} {d' : Disk} → Wrote d b new (Ok u) es d' →
-      (b < blocks d) × (d.online ≡ true) × (es ≡ write_done ∷ []) × (d' ≡ put d b (entry.Bytes new))
+      (b < blocks d) × (d.online ≡ true) × (es ≡ write_done ∷ []) × (d' ≡ put d b (Some new))
   wrote_ok (done h o) = (h, o, refl, refl)
 
   -- a write on an online device that is not done is lost
@@ -124,7 +122,7 @@ pub writes : {d : Disk} {b : ℕ} {new : List ℕ} {a : Result (Unit {0}) Device
 writes {es = es} w = record { events = es; wrote = w; fixed = wrote_blocks w }
 
 module _ {d d' : Disk} {b : ℕ} {new : List ℕ} where
-  pub writes_done : b < blocks d → d.online ≡ true → d' ≡ put d b (entry.Bytes new) → Writes d b new (Ok tt) d'
+  pub writes_done : b < blocks d → d.online ≡ true → d' ≡ put d b (Some new) → Writes d b new (Ok tt) d'
   writes_done h o e =
       writes (subst (λ x. Wrote d b new (Ok tt) (write_done ∷ []) x) (sym e) (done h o))
 

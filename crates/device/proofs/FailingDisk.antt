@@ -1,11 +1,9 @@
 -- The failing device's disk, by its entries.
-use Rattle.std.proofs.Common.{◌≡◌, ℕ, zero, suc, ◌<◌, min, Bool, true, false, List, [], ◌∷◌, length, get_or, take, set, Ok, Err, sym, refl, ap, ◌∙◌, subst, arith}
+use Rattle.std.proofs.Common.{◌≡◌, ℕ, zero, suc, ◌<◌, min, Bool, true, false, List, [], ◌∷◌, length, get_or, take, set, Ok, Err, sym, refl, ap, ◌∙◌, subst, arith, Some, None}
 use Rattle.std.proofs.lemmas.List.{length-take, get_or-take, get_or_default}
 use Rattle.device.specs.declared.DeviceError.TheVariants.{Offline}
-use Rattle.device.specs.declared.Entry.{Entry}
-use Rattle.device.specs.declared.Entry.TheVariants.{Bytes, Unreadable}
 use Rattle.device.specs.declared.Remains.{Remains}
-use Rattle.device.specs.Disk.{blocks, entry_at, put, turned, left_by, Wrote, done, lost, write_done, write_lost}
+use Rattle.device.specs.Disk.{Entry, blocks, entry_at, put, turned, left_by, Wrote, done, lost, write_done, write_lost}
 use Rattle.device.specs.FailingDisk.{failing_disk, event_of}
 use Rattle.device.proofs.Disk.{turned_same}
 
@@ -23,11 +21,11 @@ pub blocks_failing : (es : List Entry) (o : Bool) → blocks (failing_disk es o)
 unfolding failing_disk
 blocks_failing es o = omega (arith, length-take 65535 es)
 
-entry_at_below : (es : List Entry) (o : Bool) (b : ℕ) → b < 65535 → entry_at (failing_disk es o) b ≡ get_or es b Unreadable
+entry_at_below : (es : List Entry) (o : Bool) (b : ℕ) → b < 65535 → entry_at (failing_disk es o) b ≡ get_or es b None
 unfolding failing_disk
-entry_at_below es o b h = get_or-take 65535 es b Unreadable h
+entry_at_below es o b h = get_or-take 65535 es b None h
 
-pub entry_at_failing : (es : List Entry) (o : Bool) (b : ℕ) → b < blocks (failing_disk es o) → entry_at (failing_disk es o) b ≡ get_or es b Unreadable
+pub entry_at_failing : (es : List Entry) (o : Bool) (b : ℕ) → b < blocks (failing_disk es o) → entry_at (failing_disk es o) b ≡ get_or es b None
 entry_at_failing es o b h = entry_at_below es o b (omega (arith, blocks_failing es o))
 
 pub failing_put : (es : List Entry) (o p : Bool) (b : ℕ) (x : Entry) → failing_disk (set es b x) p ≡ turned (put (failing_disk es o) b x) p
@@ -42,16 +40,16 @@ event_of_some (suc n) m h = refl
 
 module _ (es : List Entry) (o : Bool) (b : ℕ) (new : List ℕ) (m : Remains) (h : b < blocks (failing_disk es o)) (on : o ≡ true) where
   pub failing_done :
-      (good : ℕ) → 0 < good → Wrote (failing_disk es o) b new (Ok tt) (event_of good m ∷ []) (failing_disk (set es b (Bytes new)) o)
+      (good : ℕ) → 0 < good → Wrote (failing_disk es o) b new (Ok tt) (event_of good m ∷ []) (failing_disk (set es b (Some new)) o)
   failing_done good some =
       let d = failing_disk es o in
-      let w : Wrote d b new (Ok tt) (write_done ∷ []) (put d b (Bytes new)) = done h (online_failing es o ∙ on) in
+      let w : Wrote d b new (Ok tt) (write_done ∷ []) (put d b (Some new)) = done h (online_failing es o ∙ on) in
       subst
-      (λ e. Wrote d b new (Ok tt) (e ∷ []) (failing_disk (set es b (Bytes new)) o))
+      (λ e. Wrote d b new (Ok tt) (e ∷ []) (failing_disk (set es b (Some new)) o))
       (sym (event_of_some good m some))
       (subst
       (λ x. Wrote d b new (Ok tt) (write_done ∷ []) x)
-      (sym (failing_put es o o b (Bytes new) ∙ turned_same (put d b (Bytes new)) o (online_failing es o)))
+      (sym (failing_put es o o b (Some new) ∙ turned_same (put d b (Some new)) o (online_failing es o)))
       w)
 
   -- x is what the device puts into the block
@@ -64,7 +62,7 @@ module _ (es : List Entry) (o : Bool) (b : ℕ) (new : List ℕ) (m : Remains) (
       lost m h (online_failing es o ∙ on) in
       let within : b < length es = omega (arith, blocks_failing es o) in
       let left : x ≡ left_by m (entry_at d b) new =
-      q ∙ ap (λ y. left_by m y new) (get_or_default es b e Unreadable within ∙ sym (entry_at_failing es o b h)) in
+      q ∙ ap (λ y. left_by m y new) (get_or_default es b e None within ∙ sym (entry_at_failing es o b h)) in
       subst
       (λ n. Wrote d b new (Err Offline) (event_of n m ∷ []) (failing_disk (set es b x) false))
       (sym none)

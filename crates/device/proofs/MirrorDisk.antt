@@ -1,15 +1,13 @@
 -- A mirror of two devices is a device.
-use Rattle.std.proofs.Common.{◌≡◌, ℕ, zero, suc, ◌<◌, min, Bool, true, false, ◌&&◌, List, [], ◌∷◌, length, get_or, set, Ok, Err, Result, sym, refl, ap, ◌∙◌, subst, arith}
+use Rattle.std.proofs.Common.{◌≡◌, ℕ, zero, suc, ◌<◌, min, Bool, true, false, ◌&&◌, List, [], ◌∷◌, length, get_or, set, Ok, Err, Result, sym, refl, ap, ◌∙◌, subst, arith, Some, None}
 use Rattle.std.proofs.lemmas.List.{set-set}
 use Rattle.std.proofs.lemmas.Bool.{and_from, and_left, and_right}
 use Rattle.std.specs.Result.{result_and}
-use Rattle.device.specs.declared.Entry.{Entry}
-use Rattle.device.specs.declared.Entry.TheVariants.{Bytes, Unreadable}
 use Rattle.device.specs.declared.DeviceError.{DeviceError}
 use Rattle.device.specs.declared.DeviceError.TheVariants.{Offline}
 use Rattle.device.specs.declared.Remains.{Remains}
-use Rattle.device.specs.declared.Remains.TheVariants.{Old, New, Unreadable as Gone}
-use Rattle.device.specs.Disk.{Disk, blocks, entry_at, put, turned, reading, left_by, Event, BroughtOnline, came, stayed, Writes, Brings}
+use Rattle.device.specs.declared.Remains.TheVariants.{Old, New, Unreadable}
+use Rattle.device.specs.Disk.{Entry, Disk, blocks, entry_at, put, turned, reading, left_by, Event, BroughtOnline, came, stayed, Writes, Brings}
 use Rattle.device.specs.MirrorDisk.{preferred, merged, mirror_of, Copied, Ready, WroteBoth}
 use Rattle.device.specs.MirrorDisk.{refused, copy_lost, left_lost, right_last, BroughtBoth, copied, nothing}
 use Rattle.device.proofs.Disk.{turned_same, put_same, blocks_put, wrote_ok, wrote_err, writes_done, writes_lost, writes_refused, brings_done, brings_refused}
@@ -41,7 +39,7 @@ blocks_mirror_of l r = length_merged l.entries r.entries
 
 pub entry_at_mirror_of : (l r : Disk) (b : ℕ) → b < blocks l → b < blocks r → entry_at (mirror_of l r) b ≡ preferred (entry_at l b) (entry_at r b)
 unfolding mirror_of
-entry_at_mirror_of l r b h m = get_d_merged l.entries r.entries b Unreadable h m
+entry_at_mirror_of l r b h m = get_d_merged l.entries r.entries b None h m
 
 pub online_both : (l r : Disk) → l.online ≡ true → r.online ≡ true → (mirror_of l r).online ≡ true
 unfolding mirror_of
@@ -103,20 +101,20 @@ unfolding mirror_of
 mirror_put l r b x y o p = λ i. record { entries = merged_set l.entries r.entries b x y i; online = o && p }
 
 preferred_twice : (x y : Entry) → preferred x (preferred x y) ≡ preferred x y
-preferred_twice (Bytes xs) y = refl
-preferred_twice Unreadable y = refl
+preferred_twice (Some xs) y = refl
+preferred_twice None y = refl
 
 -- a lost write to the left, with the old entry on the right, leaves the mirror old or new
 left_remains : Remains → Remains
 left_remains Old = Old
 left_remains New = New
-left_remains Gone = Old
+left_remains Unreadable = Old
 
 left_remains_is : (m : Remains) (x y : Entry) (new : List ℕ) → preferred (left_by m x new) (preferred x y) ≡ left_by (left_remains m) (preferred x y) new
 unfolding left_remains
 left_remains_is Old x y new = preferred_twice x y
 left_remains_is New x y new = refl
-left_remains_is Gone x y new = refl
+left_remains_is Unreadable x y new = refl
 
 -- a second write to a block replaces the first
 put_again : (d : Disk) (b : ℕ) (x y : Entry) (o p : Bool) → turned (put (turned (put d b x) o) b y) p ≡ turned (put d b y) p
@@ -135,12 +133,12 @@ module _ {l r : Disk} {b : ℕ} (ready : Ready l r b) where
   left_same : l ≡ turned (put l b (entry_at l b)) true
   left_same = sym (turned_same (put l b (entry_at l b)) true ready.left_online ∙ put_same l b)
 
-  left_done : {new : List ℕ} {l' : Disk} → Writes l b new (Ok tt) l' → l' ≡ turned (put l b (Bytes new)) true
-  left_done {new} w = (wrote_ok w.wrote).3 ∙ sym (turned_same (put l b (Bytes new)) true ready.left_online)
+  left_done : {new : List ℕ} {l' : Disk} → Writes l b new (Ok tt) l' → l' ≡ turned (put l b (Some new)) true
+  left_done {new} w = (wrote_ok w.wrote).3 ∙ sym (turned_same (put l b (Some new)) true ready.left_online)
 
   -- after the copy the right side holds the mirror's old entry
   copy_done : {x : Entry} {r₁ : Disk} → Copied r b x (Ok tt) r₁ → r₁ ≡ turned (put r b (preferred x (entry_at r b))) true
-  copy_done (copied {xs} w) = (wrote_ok w.wrote).3 ∙ sym (turned_same (put r b (Bytes xs)) true ready.right_online)
+  copy_done (copied {xs} w) = (wrote_ok w.wrote).3 ∙ sym (turned_same (put r b (Some xs)) true ready.right_online)
   copy_done nothing = sym (turned_same (put r b (entry_at r b)) true ready.right_online ∙ put_same r b)
 
   -- where the copy is lost, the left side still holds the old entry
@@ -186,16 +184,16 @@ module _ {l r : Disk} {b : ℕ} (ready : Ready l r b) where
       Writes l b new (Ok tt) l' → Writes r₁ b new a r' → Writes (mirror_of l r) b new a (mirror_of l' r')
   right_last_lem {new} {r₁} {l'} {r'} (Ok u) c w v =
       let old = preferred (entry_at l b) (entry_at r b) in
-      let right : r' ≡ turned (put r b (Bytes new)) true =
+      let right : r' ≡ turned (put r b (Some new)) true =
       (wrote_ok v.wrote).3
-      ∙ ap (λ d. put d b (Bytes new)) (copy_done c)
-      ∙ put_again r b old (Bytes new) true true in
+      ∙ ap (λ d. put d b (Some new)) (copy_done c)
+      ∙ put_again r b old (Some new) true true in
       writes_done
       within
       online
       ((λ i. mirror_of (left_done w i) (right i))
-      ∙ mirror_put l r b (Bytes new) (Bytes new) true true
-      ∙ turned_same (put (mirror_of l r) b (Bytes new)) true online)
+      ∙ mirror_put l r b (Some new) (Some new) true true
+      ∙ turned_same (put (mirror_of l r) b (Some new)) true online)
   right_last_lem {new} {r₁} {l'} {r'} (Err e) c w v =
       let old = preferred (entry_at l b) (entry_at r b) in
       let q = copy_done c in
@@ -209,7 +207,7 @@ module _ {l r : Disk} {b : ℕ} (ready : Ready l r b) where
       p.1
       within
       online
-      ((λ i. mirror_of (left_done w i) (right i)) ∙ mirror_put l r b (Bytes new) z true false)
+      ((λ i. mirror_of (left_done w i) (right i)) ∙ mirror_put l r b (Some new) z true false)
 
 -- a write to both sides is a write to the mirror
 pub wrote_both :

@@ -1,12 +1,14 @@
 -- What a device means to its caller, and what each of its calls answers and changes.
 -- Assumes nothing.
-use Rattle.std.specs.Prelude.{◌≡◌, ℕ, ◌<◌, ◌≤◌, Bool, true, false, cond, List, [], ◌∷◌, length, Ok, Err, Result, nat_lt, slice_index_or, slice_set}
-use Rattle.device.specs.declared.Entry.{Entry}
-use Rattle.device.specs.declared.Entry.TheVariants as entry
+use Rattle.std.specs.Prelude.{◌≡◌, ℕ, ◌<◌, ◌≤◌, Bool, true, false, cond, List, [], ◌∷◌, length, Ok, Err, Option, Result, nat_lt, slice_index_or, slice_set, Some, None}
 use Rattle.device.specs.declared.DeviceError.{DeviceError}
 use Rattle.device.specs.declared.DeviceError.TheVariants.{Outside, Offline}
 use Rattle.device.specs.declared.Remains.{Remains}
 use Rattle.device.specs.declared.Remains.TheVariants as remains
+
+-- what a block holds: its bytes, or nothing that can be read
+abbrev pub Entry : Type 0
+Entry = Option (List ℕ)
 
 -- the entry of each block, and whether the device is online
 pub record Disk : Type 0 where
@@ -19,7 +21,7 @@ blocks d = length d.entries
 
 -- the entry of block b
 abbrev pub entry_at : Disk → ℕ → Entry
-entry_at d b = slice_index_or d.entries b entry.Unreadable
+entry_at d b = slice_index_or d.entries b None
 
 -- the disk with another entry in block b
 abbrev pub put : Disk → ℕ → Entry → Disk
@@ -51,8 +53,8 @@ pub data Event : Type 0 where
 -- the entry that a lost write of new bytes leaves, where e was
 abbrev pub left_by : Remains → Entry → List ℕ → Entry
 left_by remains.Old e new = e
-left_by remains.New e new = entry.Bytes new
-left_by remains.Unreadable e new = entry.Unreadable
+left_by remains.New e new = Some new
+left_by remains.Unreadable e new = None
 
 -- The write of new bytes to block b of the disk d: its answer, its events, and the disk after it.
 pub data Wrote (d : Disk) (b : ℕ) (new : List ℕ) : Result (Unit {0}) DeviceError → List Event → Disk → Type 0 where
@@ -61,7 +63,7 @@ pub data Wrote (d : Disk) (b : ℕ) (new : List ℕ) : Result (Unit {0}) DeviceE
   -- an offline device: nothing changes
   offline : b < blocks d → d.online ≡ false → Wrote d b new (Err Offline) [] d
   -- done: the block holds the new bytes
-  done : b < blocks d → d.online ≡ true → Wrote d b new (Ok tt) (write_done ∷ []) (put d b (entry.Bytes new))
+  done : b < blocks d → d.online ≡ true → Wrote d b new (Ok tt) (write_done ∷ []) (put d b (Some new))
   -- lost: the device is offline, and the block is left old, new or unreadable
   lost :
       (m : Remains) → b < blocks d → d.online ≡ true →

@@ -2,9 +2,8 @@
 -- Assumes nothing.
 use Rattle.std.specs.Prelude.{◌≡◌, ℕ, zero, suc, ◌<◌, Bool, true, List, [], ◌∷◌, take, Result}
 use Rattle.device.specs.declared.DeviceError.{DeviceError}
-use Rattle.device.specs.declared.Entry.{Entry}
 use Rattle.device.specs.declared.Remains.{Remains}
-use Rattle.device.specs.Disk.{Disk, Event, write_done, write_lost, Wrote, blocks}
+use Rattle.device.specs.Disk.{Entry, Disk, Event, write_done, write_lost, Wrote, blocks}
 
 -- its disk: at most 65,535 of the entries
 unfoldable pub failing_disk : List Entry → Bool → Disk

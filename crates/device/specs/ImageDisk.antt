@@ -1,10 +1,9 @@
 -- The image: a device that lies in bytes.
 -- Assumes nothing.
-use Rattle.std.specs.Prelude.{ℕ, ◌+◌, ◌*◌, ◌/◌, min, true, cond, List, ◌++◌, map, length, take, drop, Ok, Err, Result, nat_lt}
+use Rattle.std.specs.Prelude.{ℕ, ◌+◌, ◌*◌, ◌/◌, min, true, cond, List, ◌++◌, map, length, take, drop, Ok, Err, Result, nat_lt, Some}
 use Rattle.std.specs.List.{range_with_len}
 use Rattle.device.specs.declared.DeviceError.{DeviceError}
 use Rattle.device.specs.declared.DeviceError.TheVariants.{Outside}
-use Rattle.device.specs.declared.Entry.TheVariants.{Bytes}
 use Rattle.device.specs.Disk.{Disk}
 
 -- as many blocks as there are whole ones, at most 65,535
@@ -30,6 +29,6 @@ written_in bytes b new = cond (nat_lt b (blocks_in bytes)) (with_block bytes b n
 -- the device that lies in the bytes: always online
 unfoldable pub disk_in : List ℕ → Disk
 disk_in bytes = record {
-  entries = map (λ b. Bytes (block_in bytes b)) (range_with_len 0 (blocks_in bytes));
+  entries = map (λ b. Some (block_in bytes b)) (range_with_len 0 (blocks_in bytes));
   online = true;
 }

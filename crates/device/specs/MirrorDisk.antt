@@ -1,18 +1,16 @@
 -- The mirror: two devices that stand for one.
 -- Assumes nothing.
-use Rattle.std.specs.Prelude.{◌≡◌, ℕ, ◌<◌, true, ◌&&◌, List, [], ◌∷◌, Ok, Err, Result}
+use Rattle.std.specs.Prelude.{◌≡◌, ℕ, ◌<◌, true, ◌&&◌, List, [], ◌∷◌, Ok, Err, Result, Some, None}
+use Rattle.std.specs.Option.{option_or}
 use Rattle.std.specs.Result.{result_and}
-use Rattle.device.specs.declared.Entry.{Entry}
-use Rattle.device.specs.declared.Entry.TheVariants.{Bytes, Unreadable}
 use Rattle.device.specs.declared.DeviceError.{DeviceError}
-use Rattle.device.specs.Disk.{Disk, blocks, entry_at, reading, Writes, Brings}
+use Rattle.device.specs.Disk.{Entry, Disk, blocks, entry_at, reading, Writes, Brings}
 
 -- ---- what it means
 
 -- the left side's entry, or the right side's where the left is unreadable
 abbrev pub preferred : Entry → Entry → Entry
-preferred (Bytes xs) right = Bytes xs
-preferred Unreadable right = right
+preferred left right = option_or left right
 
 -- block by block, as far as both sides go
 abbrev pub merged : List Entry → List Entry → List Entry
@@ -29,9 +27,9 @@ mirror_of l r = record { entries = merged l.entries r.entries; online = l.online
 -- The copy of an entry to block b of the disk d: its answer, and the disk after it.
 pub data Copied (d : Disk) (b : ℕ) : Entry → Result (Unit {0}) DeviceError → Disk → Type 0 where
   -- readable: its bytes are written
-  copied : {xs : List ℕ} {a : Result (Unit {0}) DeviceError} {d' : Disk} → Writes d b xs a d' → Copied d b (Bytes xs) a d'
+  copied : {xs : List ℕ} {a : Result (Unit {0}) DeviceError} {d' : Disk} → Writes d b xs a d' → Copied d b (Some xs) a d'
   -- unreadable: nothing is done
-  nothing : Copied d b Unreadable (Ok tt) d
+  nothing : Copied d b None (Ok tt) d
 
 -- Both sides have block b, and both are online.
 pub record Ready (l r : Disk) (b : ℕ) : Type 0 where

@@ -51,7 +51,7 @@ impl Device for Failing<'_> {
         let at = block as usize;
         if self.good > 0 {
             self.good -= 1;
-            self.entries[at] = Entry::Bytes(*bytes);
+            self.entries[at] = Some(*bytes);
             return Ok(());
         }
         self.entries[at] = left_by(self.leaves, self.entries[at], bytes);
@@ -80,7 +80,7 @@ fn left_by(leaves: Remains, old: Entry, new: &[u8; 512]) -> Entry
 {
     match leaves {
         Remains::Old => old,
-        Remains::New => Entry::Bytes(*new),
-        Remains::Unreadable => Entry::Unreadable,
+        Remains::New => Some(*new),
+        Remains::Unreadable => None,
     }
 }

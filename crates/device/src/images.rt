@@ -31,7 +31,7 @@ impl Device for Image<'_> {
 
     fn read(&self, block: u16) -> Result<Entry, DeviceError> {
         if block < <Image<'_> as Device>::count(self) {
-            Ok(Entry::Bytes(block_in(self.bytes, block)))
+            Ok(Some(block_in(self.bytes, block)))
         } else {
             Err(DeviceError::Outside)
         }

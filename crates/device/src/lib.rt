@@ -13,15 +13,11 @@ pub use failures::Failing;
 pub use images::Image;
 pub use mirrors::Mirror;
 
-// What a block holds.
-#[derive(Clone, Copy)]
-pub enum Entry {
-    Bytes([u8; 512]),
-    Unreadable,
-}
+// What a block holds: its bytes, or nothing that can be read.
+pub type Entry = Option<[u8; 512]>;
 
 // Why a device refuses.
-#[derive(Clone, Copy)]
+#[derive(Clone, Copy, Debug, PartialEq, Eq)]
 pub enum DeviceError {
     // the block is at or above the count
     Outside,
@@ -30,7 +26,7 @@ pub enum DeviceError {
 }
 
 // How a write that was lost leaves its block.
-#[derive(Clone, Copy)]
+#[derive(Clone, Copy, Debug, PartialEq, Eq)]
 pub enum Remains {
     Old,
     New,
@@ -86,5 +82,5 @@ impl<D: Device> Device for &mut D {
 fn capped(n: usize) -> u16
     ensures { result ≡ min n 65535 }
 {
-    if n < 65535 { n as u16 } else { 65535 }
+    u16::try_from(n).unwrap_or(u16::MAX)
 }

@@ -1,7 +1,7 @@
 // A device over two others.
 ghost use Rattle.std.specs.Prelude.{◌≡◌};
 ghost use Rattle.device.specs.Disk.{Writes, Brings};
-ghost use Rattle.device.specs.MirrorDisk.{mirror_of, preferred, Copied, WroteBoth, BroughtBoth};
+ghost use Rattle.device.specs.MirrorDisk.{mirror_of, Copied, WroteBoth, BroughtBoth};
 
 use super::{Device, DeviceError, Entry};
 
@@ -26,7 +26,7 @@ impl<L: Device, R: Device> Device for Mirror<L, R> {
         }
         let left = self.left.read(block)?;
         let right = self.right.read(block)?;
-        Ok(prefer(left, right))
+        Ok(left.or(right))
     }
 
     // The old left bytes go to the right side first, so that a lost left write leaves the mirror old or
@@ -56,22 +56,12 @@ impl<L: Device, R: Device> Device for Mirror<L, R> {
     }
 }
 
-// The left entry, or the right one where that is unreadable.
-fn prefer(left: Entry, right: Entry) -> Entry
-    ensures { result ≡ preferred left right }
-{
-    match left {
-        Entry::Bytes(_) => left,
-        Entry::Unreadable => right,
-    }
-}
-
 // Writes an old entry, if it is readable.
 fn copy<D: Device>(device: &mut D, block: u16, old: Entry) -> Result<(), DeviceError>
     ensures { Copied (D.Device.meaning device.old) block old result (D.Device.meaning device.new) }
 {
     match old {
-        Entry::Bytes(bytes) => device.write(block, &bytes),
-        Entry::Unreadable => Ok(()),
+        Some(bytes) => device.write(block, &bytes),
+        None => Ok(()),
     }
 }

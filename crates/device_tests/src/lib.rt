@@ -23,8 +23,8 @@ mod tests {
     // The byte that block b begins with.
     fn first<D: Device>(device: &D, b: u16) -> Result<u8, Fail> {
         match device.read(b) {
-            Ok(Entry::Bytes(bytes)) => Ok(bytes[0]),
-            Ok(Entry::Unreadable) => Err(Fail::new("unreadable")),
+            Ok(Some(bytes)) => Ok(bytes[0]),
+            Ok(None) => Err(Fail::new("unreadable")),
             Err(DeviceError::Outside) => Err(Fail::new("outside")),
             Err(DeviceError::Offline) => Err(Fail::new("offline")),
         }
@@ -73,7 +73,7 @@ mod tests {
     fn copy_is_lost(rt: HostRuntime) -> Result<(), Fail> {
         for leaves in LEAVES {
             let mut one = [1u8; 512];
-            let mut two = [Entry::Bytes([2; 512])];
+            let mut two = [Some([2; 512])];
             let mut mirror = Mirror {
                 left: Image::new(&mut one),
                 right: failing(&mut two, 0, leaves),
@@ -88,7 +88,7 @@ mod tests {
     #[test]
     fn left_is_lost(rt: HostRuntime) -> Result<(), Fail> {
         for leaves in LEAVES {
-            let mut one = [Entry::Bytes([1; 512])];
+            let mut one = [Some([1; 512])];
             let mut two = [2u8; 512];
             let mut mirror = Mirror {
                 left: failing(&mut one, 0, leaves),
@@ -106,7 +106,7 @@ mod tests {
     fn right_is_lost(rt: HostRuntime) -> Result<(), Fail> {
         for leaves in LEAVES {
             let mut one = [1u8; 512];
-            let mut two = [Entry::Bytes([2; 512])];
+            let mut two = [Some([2; 512])];
             let mut mirror = Mirror {
                 left: Image::new(&mut one),
                 right: failing(&mut two, 1, leaves),
@@ -119,8 +119,8 @@ mod tests {
     // An unreadable left block is not copied, and the right one stands for it.
     #[test]
     fn left_is_unreadable(rt: HostRuntime) -> Result<(), Fail> {
-        let mut one = [Entry::Unreadable];
-        let mut two = [Entry::Bytes([2; 512])];
+        let mut one = [None];
+        let mut two = [Some([2; 512])];
         let mut mirror = Mirror {
             left: failing(&mut one, 0, Remains::Unreadable),
             right: failing(&mut two, 0, Remains::Unreadable),
@@ -135,8 +135,8 @@ mod tests {
     // Both sides are tried, whatever the left one answers.
     #[test]
     fn sides_come_online(rt: HostRuntime) -> Result<(), Fail> {
-        let mut one = [Entry::Bytes([1; 512])];
-        let mut two = [Entry::Bytes([2; 512])];
+        let mut one = [Some([1; 512])];
+        let mut two = [Some([2; 512])];
         let mut left = failing(&mut one, 0, Remains::Old);
         let mut right = failing(&mut two, 0, Remains::Old);
         left.recovers = false;
@@ -154,7 +154,7 @@ mod tests {
     // A mirror of mirrors.
     #[test]
     fn mirrors_nest(rt: HostRuntime) -> Result<(), Fail> {
-        let mut one = [Entry::Bytes([1; 512])];
+        let mut one = [Some([1; 512])];
         let mut two = [2u8; 512];
         let mut three = [3u8; 512];
         let inner = Mirror {

@@ -10,7 +10,6 @@ use Rattle.octets.specs.Numbers.{little, value_of, number_at}
 use Rattle.octets.specs.Zeros.{zeros, every, blank}
 use Rattle.octets.proofs.Numbers.{value_little, bytes_there, number_there_lt, zeros_there, cut}
 use Rattle.octets.proofs.Under.{under_all}
-use Rattle.device.specs.declared.Entry.TheVariants.{Bytes}
 use Rattle.journal.specs.declared.headers.Header.TheVariants as header
 use Rattle.journal.specs.declared.headers.Pending.{Pending}
 use Rattle.journal.specs.declared.headers.PendingCall.{PendingCall}
@@ -292,7 +291,7 @@ read_free false true (Some q) e = absurd (let z : ◌≡◌ {A = ℕ} 0 1 = cc i
 read_free false false o e = absurd (let z : ◌≡◌ {A = ℕ} 0 1 = cc in omega arith)
 
 exact_pending :
-    (bs : List ℕ) (p : Pending) → length bs ≡ 512 → AllByRecursion (λ b. b < 256) bs → header_of (Bytes bs) ≡ header.Pending p →
+    (bs : List ℕ) (p : Pending) → length bs ≡ 512 → AllByRecursion (λ b. b < 256) bs → header_of (Some bs) ≡ header.Pending p →
     Lawful p × (bs ≡ pending_bytes p)
 unfolding header_of
 exact_pending bs p sized small is =

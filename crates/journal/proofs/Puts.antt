@@ -1,7 +1,6 @@
 -- What the disk holds after writes, and the places of after-images.
 -- Assumes nothing.
-use Rattle.std.proofs.Common.{◌≡◌, ℕ, ◌+◌, ◌<◌, ◌≤◌, Bool, List, [], ◌∷◌, ◌++◌, length, refl, ap, ◌∙◌, arith}
-use Rattle.device.specs.declared.Entry.TheVariants as entry
+use Rattle.std.proofs.Common.{◌≡◌, ℕ, ◌+◌, ◌<◌, ◌≤◌, Bool, List, [], ◌∷◌, ◌++◌, length, refl, ap, ◌∙◌, arith, Some}
 use Rattle.device.specs.Disk.{Disk, blocks, entry_at, put, turned}
 use Rattle.device.proofs.Disk.{blocks_put, entry_at_put, entry_at_put_other}
 use Rattle.journal.specs.declared.Write.{Write}
@@ -10,37 +9,37 @@ use Rattle.journal.specs.Writes.{puts, Inside, Spares, next_block, images_from}
 
 pub puts_append : (ws vs : List Write) (d : Disk) → puts (ws ++ vs) d ≡ puts vs (puts ws d)
 puts_append [] vs d = refl
-puts_append (w ∷ ws) vs d = puts_append ws vs (put d w.block (entry.Bytes w.bytes))
+puts_append (w ∷ ws) vs d = puts_append ws vs (put d w.block (Some w.bytes))
 
 pub puts_blocks : (ws : List Write) (d : Disk) → blocks (puts ws d) ≡ blocks d
 puts_blocks [] d = refl
 puts_blocks (w ∷ ws) d =
-    puts_blocks ws (put d w.block (entry.Bytes w.bytes)) ∙ blocks_put d w.block (entry.Bytes w.bytes)
+    puts_blocks ws (put d w.block (Some w.bytes)) ∙ blocks_put d w.block (Some w.bytes)
 
 pub puts_online : (ws : List Write) (d : Disk) → (puts ws d).online ≡ d.online
 puts_online [] d = refl
-puts_online (w ∷ ws) d = puts_online ws (put d w.block (entry.Bytes w.bytes))
+puts_online (w ∷ ws) d = puts_online ws (put d w.block (Some w.bytes))
 
 pub puts_turned : (ws : List Write) (d : Disk) (o : Bool) → puts ws (turned d o) ≡ turned (puts ws d) o
 puts_turned [] d o = refl
-puts_turned (w ∷ ws) d o = puts_turned ws (put d w.block (entry.Bytes w.bytes)) o
+puts_turned (w ∷ ws) d o = puts_turned ws (put d w.block (Some w.bytes)) o
 
 pub puts_other : (ws : List Write) (d : Disk) (k : ℕ) → Spares k ws → entry_at (puts ws d) k ≡ entry_at d k
 puts_other [] d k n = refl
 puts_other (w ∷ ws) d k n =
-    puts_other ws (put d w.block (entry.Bytes w.bytes)) k n.1
-    ∙ entry_at_put_other d w.block k (entry.Bytes w.bytes) n.0
+    puts_other ws (put d w.block (Some w.bytes)) k n.1
+    ∙ entry_at_put_other d w.block k (Some w.bytes) n.0
 
 -- a block holds the bytes of the last write to it
 pub puts_last :
     (ws : List Write) (w : Write) (vs : List Write) (d : Disk) → w.block < blocks d → Spares w.block vs →
-    entry_at (puts (ws ++ (w ∷ vs)) d) w.block ≡ entry.Bytes w.bytes
+    entry_at (puts (ws ++ (w ∷ vs)) d) w.block ≡ Some w.bytes
 puts_last ws w vs d h n =
     let e = puts ws d in
     let same : blocks e ≡ blocks d = puts_blocks ws d in
     ap (λ x. entry_at x w.block) (puts_append ws (w ∷ vs) d)
-    ∙ puts_other vs (put e w.block (entry.Bytes w.bytes)) w.block n
-    ∙ entry_at_put e w.block (entry.Bytes w.bytes) (omega arith)
+    ∙ puts_other vs (put e w.block (Some w.bytes)) w.block n
+    ∙ entry_at_put e w.block (Some w.bytes) (omega arith)
 
 -- ---- after-images
 

@@ -1,6 +1,6 @@
 -- What follows from a run of writes.
 -- Assumes nothing.
-use Rattle.std.proofs.Common.{◌≡◌, ℕ, zero, suc, ◌+◌, ◌<◌, true, false, List, [], ◌∷◌, ◌++◌, length, get_or, drop, replicate, IsErrAnd, Ok, Err, Result, sym, refl, ap, ◌∙◌, subst, arith}
+use Rattle.std.proofs.Common.{◌≡◌, ℕ, zero, suc, ◌+◌, ◌<◌, true, false, List, [], ◌∷◌, ◌++◌, length, get_or, drop, replicate, IsErrAnd, Ok, Err, Result, sym, refl, ap, ◌∙◌, subst, arith, Some}
 use Rattle.std.specs.List.{AllByRecursion}
 use Rattle.std.proofs.lemmas.List.{drop_more}
 use Rattle.std.proofs.lemmas.Bool.{both_ways}
@@ -8,7 +8,6 @@ use Rattle.std.proofs.lemmas.Result.{err_from_is_err_and}
 use Rattle.fault.specs.declared.Fault.{Fault}
 use Rattle.fault.specs.Refusals as refusals
 use Rattle.device.specs.declared.DeviceError.{DeviceError}
-use Rattle.device.specs.declared.Entry.TheVariants as entry
 use Rattle.device.specs.Disk.{Disk, blocks, entry_at, put, Event, Wrote, Writes, write_done}
 use Rattle.device.specs.Disk.{outside, offline, done, lost}
 use Rattle.device.proofs.Disk.{blocks_put, wrote_blocks, wrote_other, wrote_same}
@@ -117,7 +116,7 @@ pub ran_ok :
 ran_ok finished = record { disk = refl; events = refl; inside = tt; needed = λ some. absurd (omega arith); kept = refl }
 ran_ok (goes_on {w = w} {ws = ws} {d = d} (done h o) r) =
     let k = ran_ok r in
-    let e = entry.Bytes w.bytes in
+    let e = Some w.bytes in
     record {
       disk = k.disk;
       events = ap (λ l. write_done ∷ l) k.events;
@@ -130,7 +129,7 @@ pub ran_err :
     {ws : List Write} {d d' : Disk} {x : Fault} {es : List Event} → Ran ws d (Err x) es d' → Inside ws d → d.online ≡ true →
     Lost ws d x es d'
 ran_err (goes_on {w = w} {ws = ws} {d = d} (done h o) r) n on =
-    let e = entry.Bytes w.bytes in
+    let e = Some w.bytes in
     let k = ran_err r (inside_moved ws d (put d w.block e) (blocks_put d w.block e) n.1) o in
     record {
       before = w ∷ k.before;

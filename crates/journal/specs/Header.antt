@@ -7,8 +7,6 @@ use Rattle.octets.specs.Zeros.{zeros, every, blank}
 use Rattle.fault.specs.declared.Fault.{Fault}
 use Rattle.fault.specs.declared.Damage.TheVariants.{Mark}
 use Rattle.fault.specs.Refusals.{not_free, not_register}
-use Rattle.device.specs.declared.Entry.{Entry}
-use Rattle.device.specs.declared.Entry.TheVariants as entry
 use Rattle.journal.specs.declared.headers.Header.{Header}
 use Rattle.journal.specs.declared.headers.Header.TheVariants as header
 use Rattle.journal.specs.declared.headers.Pending.{Pending}
@@ -16,6 +14,7 @@ use Rattle.journal.specs.declared.headers.PendingCall.{PendingCall}
 use Rattle.journal.specs.declared.headers.PendingCall.TheVariants.{Store, Take}
 use Rattle.journal.specs.declared.headers.fields.CallFields.{CallFields}
 use Rattle.journal.specs.declared.headers.fields.Fields.{Fields}
+use Rattle.device.specs.Disk.{Entry}
 
 -- ---- bytes
 
@@ -125,8 +124,8 @@ bytes_header bs = cond (bytes_eq bs free_bytes) header.Free (cond (marked bs) (o
 
 -- what the entry of the header's block says
 unfoldable pub header_of : Entry → Header
-header_of entry.Unreadable = header.Unreadable
-header_of (entry.Bytes bs) = bytes_header bs
+header_of None = header.Unreadable
+header_of (Some bs) = bytes_header bs
 
 -- a free header goes on; one that is pending or unreadable is refused, and any other is not a register's
 abbrev pub free_or_refused : Header → Result (Unit {0}) Fault

@@ -1,8 +1,7 @@
 -- The laws of the journal header: there and back.
 -- Assumes nothing.
-use Rattle.std.specs.Prelude.{◌≡◌, ℕ, ◌^◌, ◌<◌, ◌≤◌, List, length, slice_index, slice_index_or}
+use Rattle.std.specs.Prelude.{◌≡◌, ℕ, ◌^◌, ◌<◌, ◌≤◌, List, length, slice_index, slice_index_or, Some}
 use Rattle.std.specs.List.{AllByRecursion}
-use Rattle.device.specs.declared.Entry.TheVariants.{Bytes}
 use Rattle.journal.specs.declared.headers.Header.TheVariants as header
 use Rattle.journal.specs.declared.headers.Pending.{Pending}
 use Rattle.journal.specs.declared.headers.PendingCall.{PendingCall}
@@ -36,12 +35,12 @@ pub record Lawful (p : Pending) : Type 0 where
 pub record HeadersReadBack : Type 0 where
   pub free_sized : length free_bytes ≡ 512
   pub pending_sized : (p : Pending) → length (pending_bytes p) ≡ 512
-  pub free : header_of (Bytes free_bytes) ≡ header.Free
-  pub pending : (p : Pending) → Lawful p → header_of (Bytes (pending_bytes p)) ≡ header.Pending p
+  pub free : header_of (Some free_bytes) ≡ header.Free
+  pub pending : (p : Pending) → Lawful p → header_of (Some (pending_bytes p)) ≡ header.Pending p
 
 -- what reads as a header is exactly what is written as it
 pub record HeadersAreExact : Type 0 where
-  pub free : (bs : List ℕ) → header_of (Bytes bs) ≡ header.Free → bs ≡ free_bytes
+  pub free : (bs : List ℕ) → header_of (Some bs) ≡ header.Free → bs ≡ free_bytes
   pub pending :
-      (bs : List ℕ) (p : Pending) → length bs ≡ 512 → AllByRecursion (λ b. b < 256) bs → header_of (Bytes bs) ≡ header.Pending p →
+      (bs : List ℕ) (p : Pending) → length bs ≡ 512 → AllByRecursion (λ b. b < 256) bs → header_of (Some bs) ≡ header.Pending p →
       Lawful p × (bs ≡ pending_bytes p)

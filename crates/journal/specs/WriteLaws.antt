@@ -1,9 +1,8 @@
 -- The laws of runs of writes.
 -- Assumes nothing.
-use Rattle.std.specs.Prelude.{◌≡◌, ℕ, ◌+◌, ◌<◌, ◌≤◌, true, false, List, [], ◌∷◌, ◌++◌, length, replicate, Ok, Err, Result}
+use Rattle.std.specs.Prelude.{◌≡◌, ℕ, ◌+◌, ◌<◌, ◌≤◌, true, false, List, [], ◌∷◌, ◌++◌, length, replicate, Ok, Err, Result, Some}
 use Rattle.fault.specs.declared.Fault.{Fault}
 use Rattle.fault.specs.Refusals.{offline}
-use Rattle.device.specs.declared.Entry.TheVariants.{Bytes}
 use Rattle.device.specs.declared.Remains.{Remains}
 use Rattle.device.specs.Disk.{Disk, blocks, entry_at, put, turned, left_by, Event, write_done, write_lost}
 use Rattle.journal.specs.declared.Write.{Write}
@@ -43,7 +42,7 @@ pub record RunsAsTold : Type 0 where
   pub done : (ws : List Write) (d d' : Disk) (es : List Event) → Ran ws d (Ok tt) es d' → Done ws d es d'
   pub last :
       (ws : List Write) (w : Write) (vs : List Write) (d : Disk) → w.block < blocks d → Spares w.block vs →
-      entry_at (puts (ws ++ (w ∷ vs)) d) w.block ≡ Bytes w.bytes
+      entry_at (puts (ws ++ (w ∷ vs)) d) w.block ≡ Some w.bytes
   -- on an online device that has the blocks
   pub lost :
       (ws : List Write) (d d' : Disk) (x : Fault) (es : List Event) → Ran ws d (Err x) es d' → Inside ws d → d.online ≡ true →

@@ -1,11 +1,10 @@
 -- Runs of writes on a device: what they answer and change, and the writes of a commit and of a replay.
 -- Assumes nothing.
-use Rattle.std.specs.Prelude.{◌≡◌, ℕ, zero, suc, ◌+◌, ◌<◌, min, Bool, true, false, ◌≢◌, List, [], ◌∷◌, ◌++◌, Ok, Err, Result}
+use Rattle.std.specs.Prelude.{◌≡◌, ℕ, zero, suc, ◌+◌, ◌<◌, min, Bool, true, false, ◌≢◌, List, [], ◌∷◌, ◌++◌, Ok, Err, Result, Some}
 use Rattle.std.specs.List.{AllByRecursion}
 use Rattle.fault.specs.declared.Fault.{Fault}
 use Rattle.fault.specs.Refusals.{offline}
 use Rattle.device.specs.declared.DeviceError.{DeviceError}
-use Rattle.device.specs.declared.Entry.TheVariants as entry
 use Rattle.device.specs.declared.Remains.TheVariants as remains
 use Rattle.device.specs.Disk.{Disk, blocks, put, Event, Wrote, write_done, write_lost, online_done, online_refused}
 use Rattle.journal.specs.declared.Write.{Write}
@@ -56,7 +55,7 @@ landed (suc n) es = landed_at n es
 -- the disk with the bytes of each write in its block
 abbrev pub puts : List Write → Disk → Disk
 puts [] d = d
-puts (w ∷ ws) d = puts ws (put d w.block (entry.Bytes w.bytes))
+puts (w ∷ ws) d = puts ws (put d w.block (Some w.bytes))
 
 -- the disk has the block of each write
 abbrev pub Inside : List Write → Disk → Type 0

@@ -52,8 +52,8 @@ impl Header {
         ensures { result ≡ header_of entry.now }
     {
         match entry {
-            Entry::Bytes(bytes) => read_bytes(bytes),
-            Entry::Unreadable => Header::Unreadable,
+            Some(bytes) => read_bytes(bytes),
+            None => Header::Unreadable,
         }
     }
 

@@ -5,9 +5,8 @@ use Rattle.std.proofs.lemmas.Bool.{cond-true, false≢true}
 use Rattle.fault.specs.declared.Damage.{Damage}
 use Rattle.fault.specs.declared.Damage.TheVariants as damage
 use Rattle.fault.specs.declared.Fault.{Fault}
-use Rattle.device.specs.declared.Entry.{Entry}
-use Rattle.device.specs.declared.Entry.TheVariants.{Bytes, Unreadable}
 use Rattle.layout.specs.Reading.{unless, or_else, first_of, unless_fault, is_block, readable, bytes_of, block_fault}
+use Rattle.device.specs.Disk.{Entry}
 
 pub or_else_parts : (a b : Option Fault) → or_else a b ≡ None → (a ≡ None) × (b ≡ None)
 or_else_parts (Some f) b h = let z : ◌≡◌ {A = ℕ} 0 1 = cc in absurd (omega arith)
@@ -43,13 +42,13 @@ ok_none None a b h = (refl, cc)
 
 -- ---- blocks
 
-readable_is : (e : Entry) → readable e ≡ true → (e ≡ Bytes (bytes_of e)) × (is_block (bytes_of e) ≡ true)
-readable_is (Bytes xs) h = (refl, h)
-readable_is Unreadable h = absurd (false≢true h)
+readable_is : (e : Entry) → readable e ≡ true → (e ≡ Some (bytes_of e)) × (is_block (bytes_of e) ≡ true)
+readable_is (Some xs) h = (refl, h)
+readable_is None h = absurd (false≢true h)
 
 -- a block that reads is its bytes
-pub block_read : (blocks : ℕ → Entry) (b : ℕ) → block_fault blocks b ≡ None → (blocks b ≡ Bytes (bytes_of (blocks b))) × (is_block (bytes_of (blocks b)) ≡ true)
+pub block_read : (blocks : ℕ → Entry) (b : ℕ) → block_fault blocks b ≡ None → (blocks b ≡ Some (bytes_of (blocks b))) × (is_block (bytes_of (blocks b)) ≡ true)
 block_read blocks b h = readable_is (blocks b) (unless_passes (readable (blocks b)) b damage.Unreadable h)
 
-pub block_reads : (blocks : ℕ → Entry) (b : ℕ) (xs : List ℕ) → blocks b ≡ Bytes xs → is_block xs ≡ true → block_fault blocks b ≡ None
+pub block_reads : (blocks : ℕ → Entry) (b : ℕ) (xs : List ℕ) → blocks b ≡ Some xs → is_block xs ≡ true → block_fault blocks b ≡ None
 block_reads blocks b xs e h = unless_none (readable (blocks b)) b damage.Unreadable (ap readable e ∙ h)

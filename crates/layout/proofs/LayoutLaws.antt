@@ -3,8 +3,6 @@
 use Rattle.std.proofs.Common.{◌≡◌, ℕ, ◌+◌, ◌-◌, ◌/◌, ◌^◌, ◌<◌, ◌≤◌, true, eqb, ltb, ◌⊎◌, List, length, Some, None, Ok, Option, sym, refl, ap, ◌∙◌, subst, inl, inr, ⊎_elim, zero-add, arith}
 use Rattle.std.proofs.lemmas.Bool.{cond-true, cond-false, lt-ltb, le-ltb, ne_eqb, eq-eqb, eqb-true, cases_lt, both_ways}
 use Rattle.fault.specs.declared.Damage.TheVariants as damage
-use Rattle.device.specs.declared.Entry.{Entry}
-use Rattle.device.specs.declared.Entry.TheVariants.{Bytes}
 use Rattle.octets.specs.Zeros.{every}
 use Rattle.pairing.specs.Ranges.{Ranges}
 use Rattle.pairing.specs.Reservoir.{Reservoir}
@@ -18,6 +16,7 @@ use Rattle.layout.proofs.Faults.{or_else_parts, or_else_none, unless_passes, unl
 use Rattle.layout.proofs.HeadLaws.{head_is_block, head_reads, head_exact}
 use Rattle.layout.proofs.SlotLaws.{slot_block_is_block, slot_in_block, number_of, numbers_have, slots_read, slots_fault_none, SlotsExact, slots_exact}
 use Rattle.layout.proofs.StockLaws.{stock_is_block, stock_reads, stock_there_exact, stock_there_counted, stock_there_below}
+use Rattle.device.specs.Disk.{Entry}
 
 -- ---- the bytes of each block
 
@@ -42,28 +41,28 @@ module _ {X : Type 0} (code : ℕ) (form : X → List ℕ) (r : Reservoir X) whe
 
 -- the blocks that hold a reservoir, part by part
 pub record Parts {X : Type 0} (code : ℕ) (form : X → List ℕ) (blocks : ℕ → Entry) (r : Reservoir X) : Type 0 where
-  pub head : blocks 0 ≡ Bytes (head_of code (counts_of r))
-  pub stock : (j : ℕ) → j < 8 → blocks (6 + j) ≡ Bytes (stock_block r.stock j)
-  pub slots : (j : ℕ) → j < 64 → blocks (14 + j) ≡ Bytes (slot_block form r.slots j)
+  pub head : blocks 0 ≡ Some (head_of code (counts_of r))
+  pub stock : (j : ℕ) → j < 8 → blocks (6 + j) ≡ Some (stock_block r.stock j)
+  pub slots : (j : ℕ) → j < 64 → blocks (14 + j) ≡ Some (slot_block form r.slots j)
 
 pub parts_held : {X : Type 0} (code : ℕ) (form : X → List ℕ) (blocks : ℕ → Entry) (r : Reservoir X) → Holds code form blocks r → Parts code form blocks r
 parts_held code form blocks r h = record {
-  head = h 0 (inl refl) ∙ ap Bytes (content_head code form r);
-  stock = λ j l. h (6 + j) (inr (omega arith, omega arith)) ∙ ap Bytes (content_stock code form r j l);
-  slots = λ j l. h (14 + j) (inr (omega arith, omega arith)) ∙ ap Bytes (content_slots code form r j);
+  head = h 0 (inl refl) ∙ ap Some (content_head code form r);
+  stock = λ j l. h (6 + j) (inr (omega arith, omega arith)) ∙ ap Some (content_stock code form r j l);
+  slots = λ j l. h (14 + j) (inr (omega arith, omega arith)) ∙ ap Some (content_slots code form r j);
 }
 
 pub held_parts : {X : Type 0} (code : ℕ) (form : X → List ℕ) (blocks : ℕ → Entry) (r : Reservoir X) → Parts code form blocks r → Holds code form blocks r
 held_parts code form blocks r p b (inl z) =
-    ap blocks z ∙ p.head ∙ ap Bytes (sym (content_head code form r)) ∙ ap (λ n. Bytes (content code form r n)) (sym z)
+    ap blocks z ∙ p.head ∙ ap Some (sym (content_head code form r)) ∙ ap (λ n. Some (content code form r n)) (sym z)
 held_parts code form blocks r p b (inr l) =
     ⊎_elim
     (λ s.
     let is : 6 + (b - 6) ≡ b = omega arith in
-    ap blocks (sym is) ∙ p.stock (b - 6) (omega arith) ∙ ap Bytes (sym (content_stock code form r (b - 6) (omega arith))) ∙ ap (λ n. Bytes (content code form r n)) is)
+    ap blocks (sym is) ∙ p.stock (b - 6) (omega arith) ∙ ap Some (sym (content_stock code form r (b - 6) (omega arith))) ∙ ap (λ n. Some (content code form r n)) is)
     (λ s.
     let is : 14 + (b - 14) ≡ b = omega arith in
-    ap blocks (sym is) ∙ p.slots (b - 14) (omega arith) ∙ ap Bytes (sym (content_slots code form r (b - 14))) ∙ ap (λ n. Bytes (content code form r n)) is)
+    ap blocks (sym is) ∙ p.slots (b - 14) (omega arith) ∙ ap Some (sym (content_slots code form r (b - 14))) ∙ ap (λ n. Some (content code form r n)) is)
     (cases_lt b 14)
 
 -- no fault at all, part by part
@@ -181,7 +180,7 @@ module _ {X : Type 0} (code : ℕ) (form : X → List ℕ) (reading : List ℕ �
     abbrev found : Reservoir X
     found = spelled reading blocks
 
-    first_block : (blocks 0 ≡ Bytes (bytes_of (blocks 0))) × (is_block (bytes_of (blocks 0)) ≡ true)
+    first_block : (blocks 0 ≡ Some (bytes_of (blocks 0))) × (is_block (bytes_of (blocks 0)) ≡ true)
     first_block = block_read blocks 0 clean.first
 
     laid_head : (bytes_of (blocks 0) ≡ head_of code numbers) × Ranges numbers × (numbers.calls < 2 ^ 32)
@@ -224,8 +223,8 @@ module _ {X : Type 0} (code : ℕ) (form : X → List ℕ) (reading : List ℕ �
     found_parts : Parts code form blocks found
     unfolding spelled
     found_parts = record {
-      head = first_block.0 ∙ ap Bytes (laid_head.0 ∙ ap (head_of code) found_counts);
-      stock = λ j h. (block_read blocks (6 + j) (clean.stock j h)).0 ∙ ap Bytes (stock_there_exact blocks are j h);
+      head = first_block.0 ∙ ap Some (laid_head.0 ∙ ap (head_of code) found_counts);
+      stock = λ j h. (block_read blocks (6 + j) (clean.stock j h)).0 ∙ ap Some (stock_there_exact blocks are j h);
       slots = laid_slots.laid;
     }
 

@@ -4,8 +4,6 @@ use Rattle.std.proofs.Common.{◌≡◌, ℕ, zero, suc, ◌+◌, ◌-◌, ◌*�
 use lib.ListN.{length-replicate}
 use Rattle.std.proofs.lemmas.Bool.{and_parts, and_from, eqb-true, eq-eqb, lt-ltb, le-ltb, ltb-true, cond-true, cond-false, or_parts, or_from, not-true, not_from_false, false≢true, cases_lt, cases_Bool, not_from_true, ne_eqb, both_ways}
 use Rattle.fault.specs.declared.Damage.TheVariants as damage
-use Rattle.device.specs.declared.Entry.{Entry}
-use Rattle.device.specs.declared.Entry.TheVariants.{Bytes}
 use Rattle.octets.specs.Numbers.{little, number_at}
 use Rattle.octets.specs.Zeros.{every, blank, zeros}
 use Rattle.octets.proofs.Numbers.{little_bytes, bytes_there, zeros_there, cut}
@@ -18,6 +16,7 @@ use Rattle.layout.specs.Layout.{slot_bytes, slot_at, slot_block}
 use Rattle.layout.specs.Reading.{unless, first_of, is_block, blank_at, bytes_of, block_fault, in_set, stock_in, slot_in, number_in, form_in, earlier, left_at, used_fault, unused_fault, slot_fault, slots_fault, with_item, slots_in}
 use Rattle.layout.proofs.Faults.{or_else_parts, or_else_none, unless_passes, unless_none, first_of_each, first_of_none, block_read}
 use Rattle.layout.proofs.Joining.{length_joined, joined_under, joined_at, joined_is}
+use Rattle.device.specs.Disk.{Entry}
 
 -- ---- how often a number was met
 
@@ -177,7 +176,7 @@ module _ {X : Type 0} (form : X → List ℕ) (sized : (x : X) → length (form 
   length_slot_block slots j = length_joined (slot_at form slots) 64 (8 * j) 8 (λ i _ _. length_slot_at slots i)
 
   -- slot i stands in block i / 8, at place i mod 8
-  pub slot_in_block : (blocks : ℕ → Entry) (slots : List (Slot X)) (i : ℕ) → blocks (14 + i / 8) ≡ Bytes (slot_block form slots (i / 8)) →
+  pub slot_in_block : (blocks : ℕ → Entry) (slots : List (Slot X)) (i : ℕ) → blocks (14 + i / 8) ≡ Some (slot_block form slots (i / 8)) →
       slot_in blocks i ≡ slot_at form slots i
   unfolding slot_in slot_block
   slot_in_block blocks slots i e =
@@ -339,7 +338,7 @@ module _ {X : Type 0} (form : X → List ℕ) (reading : List ℕ → Option X) 
 -- blocks of slots without a fault: the slots, and that the blocks hold them
 pub record SlotsExact {X : Type 0} (form : X → List ℕ) (blocks : ℕ → Entry) (k : ℕ) (slots : List (Slot X)) : Type 0 where
   pub count : length slots ≡ k
-  pub laid : (j : ℕ) → j < 64 → blocks (14 + j) ≡ Bytes (slot_block form slots j)
+  pub laid : (j : ℕ) → j < 64 → blocks (14 + j) ≡ Some (slot_block form slots j)
   pub distinct : (p : ℕ) → occurs p slots ≤ 1
   pub stocked : (p : ℕ) → 1 ≤ occurs p slots → in_set (stock_in blocks) p ≡ true
   -- the number of each slot, and which numbers no slot has
@@ -419,7 +418,7 @@ module _ {X : Type 0} (form : X → List ℕ) (reading : List ℕ → Option X) 
     count = read.count;
     numbers = numbers_in_slots;
     left = none_left;
-    laid = λ j h. (block_read blocks (14 + j) (block_none j h).0).0 ∙ ap Bytes (block_laid j h);
+    laid = λ j h. (block_read blocks (14 + j) (block_none j h).0).0 ∙ ap Some (block_laid j h);
     distinct = λ p.
         let once : times (number_in blocks) k p ≤ 1 = times_once (number_in blocks) k p (λ i h. not-true _ (member i h).1) in
         omega (arith, once, counted p);

@@ -12,12 +12,12 @@ use Rattle.pairing.specs.Rules.{bit, count_below}
 use Rattle.pairing.specs.Reservoir.{with, without}
 use Rattle.pairing.proofs.Sums.{count_like}
 use Rattle.pairing.proofs.Stock.{bit_most, with_other, without_other}
-use Rattle.device.specs.declared.Entry.{Entry}
 use Rattle.layout.specs.Layout.{packed, stock_byte, stock_block, joined}
 use Rattle.layout.specs.Reading.{bit_at, in_set, ones_in, is_block, bytes_of, stock_in}
 use Rattle.layout.proofs.Joining.{length_joined, get_d_joined, joined_under, joined_shift, joined_like}
 use Rattle.octets.proofs.Under.{Under256, under_at, under_from, under_rest}
 use Rattle.layout.proofs.Blocks.{block_length, block_under, block_from}
+use Rattle.device.specs.Disk.{Entry}
 
 -- ---- one byte
 

@@ -1,11 +1,11 @@
 -- Laying out and reading are each other's inverse.
 -- Assumes nothing.
 use Rattle.std.specs.Prelude.{◌≡◌, ℕ, ◌^◌, ◌<◌, List, Ok, Option}
-use Rattle.device.specs.declared.Entry.{Entry}
 use Rattle.pairing.specs.Reservoir.{Reservoir}
 use Rattle.pairing.specs.Rules.{Lawful}
 use Rattle.layout.specs.Layout.{Holds}
 use Rattle.layout.specs.Reading.{decode}
+use Rattle.device.specs.Disk.{Entry}
 
 -- a reservoir that can be stored: it keeps the rules, and its calls can be counted
 pub record Storable {X : Type 0} (r : Reservoir X) : Type 0 where

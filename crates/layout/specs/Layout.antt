@@ -1,15 +1,14 @@
 -- Where a reservoir lies: the bytes of the head (block 0), of the stock (blocks 6 to 13) and of the slots (blocks 14 to 77).
 -- Assumes nothing.
-use Rattle.std.specs.Prelude.{◌≡◌, ℕ, zero, suc, ◌+◌, ◌-◌, ◌*◌, ◌%◌, ◌≤◌, Bool, cond, ◌⊎◌, List, [], ◌∷◌, ◌++◌, map, take, drop, codes, ◌==◌, nat_lt}
+use Rattle.std.specs.Prelude.{◌≡◌, ℕ, zero, suc, ◌+◌, ◌-◌, ◌*◌, ◌%◌, ◌≤◌, Bool, cond, ◌⊎◌, List, [], ◌∷◌, ◌++◌, map, take, drop, codes, ◌==◌, nat_lt, Some}
 use Rattle.std.specs.List.{range_with_len}
-use Rattle.device.specs.declared.Entry.{Entry}
-use Rattle.device.specs.declared.Entry.TheVariants.{Bytes}
 use Rattle.octets.specs.Numbers.{little}
 use Rattle.octets.specs.Zeros.{zeros}
 use Rattle.pairing.specs.Reservoir.{Slot, Reservoir}
 use Rattle.pairing.specs.Rules.{bit}
 use Rattle.pairing.specs.Steps.{counts_of}
 use Rattle.pairing.specs.declared.counts.Counts.{Counts}
+use Rattle.device.specs.Disk.{Entry}
 
 -- ---- the head
 
@@ -76,4 +75,4 @@ Laid b = (b ≡ 0) ⊎ ((6 ≤ b) × (b ≤ 77))
 
 -- these blocks hold the reservoir
 abbrev pub Holds : {X : Type 0} → ℕ → (X → List ℕ) → (ℕ → Entry) → Reservoir X → Type 0
-Holds code form blocks r = (b : ℕ) → Laid b → blocks b ≡ Bytes (content code form r b)
+Holds code form blocks r = (b : ℕ) → Laid b → blocks b ≡ Some (content code form r b)

@@ -6,13 +6,12 @@ use Rattle.fault.specs.Refusals.{not_register}
 use Rattle.fault.specs.declared.Damage.{Damage}
 use Rattle.fault.specs.declared.Damage.TheVariants as damage
 use Rattle.fault.specs.declared.Fault.{Fault}
-use Rattle.device.specs.declared.Entry.{Entry}
-use Rattle.device.specs.declared.Entry.TheVariants.{Bytes, Unreadable}
 use Rattle.octets.specs.Numbers.{number_at}
 use Rattle.octets.specs.Zeros.{every, blank}
 use Rattle.pairing.specs.Reservoir.{Slot, Reservoir}
 use Rattle.pairing.specs.declared.counts.Counts.{Counts}
 use Rattle.layout.specs.Layout.{mark, joined}
+use Rattle.device.specs.Disk.{Entry}
 
 -- ---- faults, the first first
 
@@ -37,16 +36,16 @@ unless_fault None a = Ok a
 -- ---- blocks
 
 abbrev pub bytes_of : Entry → List ℕ
-bytes_of (Bytes xs) = xs
-bytes_of Unreadable = []
+bytes_of (Some xs) = xs
+bytes_of None = []
 
 -- 512 bytes, as every array of them has
 unfoldable pub is_block : List ℕ → Bool
 is_block xs = length xs == 512 && every (λ b. ltb b 256) xs
 
 abbrev pub readable : Entry → Bool
-readable (Bytes xs) = is_block xs
-readable Unreadable = false
+readable (Some xs) = is_block xs
+readable None = false
 
 abbrev pub block_fault : (ℕ → Entry) → ℕ → Option Fault
 block_fault blocks b = unless (readable (blocks b)) b damage.Unreadable

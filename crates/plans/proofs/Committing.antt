@@ -1,12 +1,10 @@
 -- A commit, done or interrupted at any of its ten writes.
 -- Assumes nothing.
-use Rattle.std.proofs.Common.{◌≡◌, ℕ, zero, suc, ◌+◌, ◌<◌, ◌≤◌, true, false, cond, ◌≢◌, List, [], ◌∷◌, ◌++◌, map, length, None, Ok, Err, Option, Result, sym, refl, ap, ◌∙◌, subst, arith}
+use Rattle.std.proofs.Common.{◌≡◌, ℕ, zero, suc, ◌+◌, ◌<◌, ◌≤◌, true, false, cond, ◌≢◌, List, [], ◌∷◌, ◌++◌, map, length, None, Ok, Err, Option, Result, sym, refl, ap, ◌∙◌, subst, arith, Some}
 use Rattle.std.proofs.lemmas.Bool.{cond-false}
 use Rattle.fault.specs.declared.Fault.{Fault}
-use Rattle.device.specs.Disk.{Disk, blocks, entry_at, put, Event, Wrote}
+use Rattle.device.specs.Disk.{Entry, Disk, blocks, entry_at, put, Event, Wrote}
 use Rattle.device.specs.Disk.{outside, offline, done, lost}
-use Rattle.device.specs.declared.Entry.{Entry}
-use Rattle.device.specs.declared.Entry.TheVariants as entry
 use Rattle.device.specs.declared.Remains.TheVariants as remains
 use Rattle.device.proofs.Disk.{entry_at_put, entry_at_put_other}
 use Rattle.pairing.specs.Reservoir.{Reservoir}
@@ -51,8 +49,8 @@ landed_short (stops (lost l b o)) (suc m) h = refl
 -- the after-images of four targets with these bytes
 pub data Imaged (bytes : ℕ → List ℕ) (d : Disk) : List ℕ → Type 0 where
   imaged :
-      {t₀ t₁ t₂ t₃ : ℕ} → entry_at d 2 ≡ entry.Bytes (bytes t₀) → entry_at d 3 ≡ entry.Bytes (bytes t₁) →
-      entry_at d 4 ≡ entry.Bytes (bytes t₂) → entry_at d 5 ≡ entry.Bytes (bytes t₃) → Imaged bytes d (t₀ ∷ t₁ ∷ t₂ ∷ t₃ ∷ [])
+      {t₀ t₁ t₂ t₃ : ℕ} → entry_at d 2 ≡ Some (bytes t₀) → entry_at d 3 ≡ Some (bytes t₁) →
+      entry_at d 4 ≡ Some (bytes t₂) → entry_at d 5 ≡ Some (bytes t₃) → Imaged bytes d (t₀ ∷ t₁ ∷ t₂ ∷ t₃ ∷ [])
 
 -- their writes
 abbrev images : (ℕ → List ℕ) → List ℕ → List Write
@@ -71,7 +69,7 @@ images_other bytes (four t₀ t₁ t₂ t₃ l₀ l₁ l₂ l₃) run k out =
       (out 3 (omega arith) (omega arith), (out 4 (omega arith) (omega arith), (out 5 (omega arith) (omega arith), tt))),
     )
 
-wrote_here : {d d' : Disk} {b : ℕ} {new : List ℕ} {es : List Event} → Wrote d b new (Ok tt) es d' → entry_at d' b ≡ entry.Bytes new
+wrote_here : {d d' : Disk} {b : ℕ} {new : List ℕ} {es : List Event} → Wrote d b new (Ok tt) es d' → entry_at d' b ≡ Some new
 wrote_here {d} {b = b} (done h o) = entry_at_put d b _ h
 
 below : (a b : ℕ) → a < b → a ≢ b
@@ -115,20 +113,20 @@ module _ {bytes : ℕ → List ℕ} where
       (or_else_none _ _ (block_reads (entry_at d) 5 (bytes t₃) e₅ (are t₃ l₃)) refl)))
 
   imaged_view :
-      {d : Disk} {ts : List ℕ} → Imaged bytes d ts → (b : ℕ) → (among b ts ≡ false → entry_at d b ≡ entry.Bytes (bytes b)) →
-      viewed d 2 ts b ≡ entry.Bytes (bytes b)
+      {d : Disk} {ts : List ℕ} → Imaged bytes d ts → (b : ℕ) → (among b ts ≡ false → entry_at d b ≡ Some (bytes b)) →
+      viewed d 2 ts b ≡ Some (bytes b)
   imaged_view {d} (imaged {t₀} {t₁} {t₂} {t₃} e₂ e₃ e₄ e₅) b own =
-      place_by t₀ t₁ t₂ t₃ b (λ k. entry_at d k ≡ entry.Bytes (bytes b))
-      (λ e. e₂ ∙ ap (λ t. entry.Bytes (bytes t)) e)
-      (λ e. e₃ ∙ ap (λ t. entry.Bytes (bytes t)) e)
-      (λ e. e₄ ∙ ap (λ t. entry.Bytes (bytes t)) e)
-      (λ e. e₅ ∙ ap (λ t. entry.Bytes (bytes t)) e)
+      place_by t₀ t₁ t₂ t₃ b (λ k. entry_at d k ≡ Some (bytes b))
+      (λ e. e₂ ∙ ap (λ t. Some (bytes t)) e)
+      (λ e. e₃ ∙ ap (λ t. Some (bytes t)) e)
+      (λ e. e₄ ∙ ap (λ t. Some (bytes t)) e)
+      (λ e. e₅ ∙ ap (λ t. Some (bytes t)) e)
       own
 
 -- ---- the commit of the next reservoir
 
 module _ {X : Type 0} (code : ℕ) (form : X → List ℕ) (reading : List ℕ → Option X) (r next : Reservoir X) (p : Pending)
-    (targets : Four p.blocks) (reads : header_of (entry.Bytes (pending_bytes p)) ≡ header.Pending p) (agree : agrees p next ≡ true)
+    (targets : Four p.blocks) (reads : header_of (Some (pending_bytes p)) ≡ header.Pending p) (agree : agrees p next ≡ true)
     (are : (b : ℕ) → Laid b → is_block (content code form next b) ≡ true)
     (same : (b : ℕ) → Laid b → among b p.blocks ≡ false → content code form next b ≡ content code form r b) where
   -- the after-images leave the register at rest
@@ -143,13 +141,13 @@ module _ {X : Type 0} (code : ℕ) (form : X → List ℕ) (reading : List ℕ �
   -- with the pending header the call is committed
   ahead :
       (d : Disk) → 1 < blocks d → Rests code form reading d r → Imaged (content code form next) d p.blocks →
-      Ahead code form reading (put d 1 (entry.Bytes (pending_bytes p))) p next
+      Ahead code form reading (put d 1 (Some (pending_bytes p))) p next
   ahead d b s i = record {
     header = ap header_of (entry_at_put d 1 _ b) ∙ reads;
     images = imaged_clean targets (imaged_beside _ i) are;
     holds = λ b l.
         imaged_view (imaged_beside _ i) b (λ out.
-        held_beside code form reading d _ r s.holds b l ∙ ap entry.Bytes (sym (same b l out)));
+        held_beside code form reading d _ r s.holds b l ∙ ap Some (sym (same b l out)));
     agree = agree;
   }
 
@@ -160,7 +158,7 @@ module _ {X : Type 0} (code : ℕ) (form : X → List ℕ) (reading : List ℕ �
       Ran (write_at 1 (pending_bytes p) ∷ replay_writes (changes_to code form next p.blocks)) d a es d' →
       Stands code form reading d' (cond (landed 1 es) next r) × (a ≡ Ok tt → Rests code form reading d' next × (landed 1 es ≡ true))
   committing {d} {d'} s i (goes_on {a = a} {es = es} (done b o) run) =
-      let d₁ = put d 1 (entry.Bytes (pending_bytes p)) in
+      let d₁ = put d 1 (Some (pending_bytes p)) in
       let after = replays code form reading targets (ahead d b s i)
       (subst (λ c. Ran (replay_writes c) d₁ a es d') (imaged_changes (imaged_beside _ i)) run) in
       (after.0, λ e. (after.1 e, refl))

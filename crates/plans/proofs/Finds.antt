@@ -7,9 +7,7 @@ use Rattle.std.specs.Str.{bytes_eq}
 use Rattle.fault.specs.Refusals.{not_register}
 use Rattle.fault.specs.declared.Damage.TheVariants as damage
 use Rattle.fault.specs.declared.Fault.{Fault}
-use Rattle.device.specs.declared.Entry.{Entry}
-use Rattle.device.specs.declared.Entry.TheVariants as entry
-use Rattle.device.specs.Disk.{Disk, entry_at}
+use Rattle.device.specs.Disk.{Entry, Disk, entry_at}
 use Rattle.pairing.specs.Reservoir.{Reservoir}
 use Rattle.journal.specs.Header.{free_bytes, header_of, marked, fields_of, slot_block, stock_block, lawful_blocks, call_of, with_call, or_unlawful}
 use Rattle.journal.specs.declared.headers.Header.{Header}
@@ -22,11 +20,11 @@ use Rattle.plans.specs.Views.{place_from, viewed}
 
 -- ---- the header
 
-pub free_reads : header_of (entry.Bytes free_bytes) ≡ header.Free
+pub free_reads : header_of (Some free_bytes) ≡ header.Free
 unfolding header_of
 free_reads = cond-true _ _ _ ((bytes_eq-Decides free_bytes free_bytes).1 refl)
 
-pub unreadable_reads : header_of entry.Unreadable ≡ header.Unreadable
+pub unreadable_reads : header_of None ≡ header.Unreadable
 unfolding header_of
 unreadable_reads = refl
 
@@ -78,8 +76,8 @@ module _ (p : Pending) where
 
   pub pending_targets : (e : Entry) → header_of e ≡ header.Pending p → Targets p.blocks
   unfolding header_of
-  pending_targets entry.Unreadable h = absurd (let z : ◌≡◌ {A = ℕ} 0 1 = cc in omega arith)
-  pending_targets (entry.Bytes bs) h = bytes_targets bs (bytes_eq bs free_bytes) (marked bs) _ refl h
+  pending_targets None h = absurd (let z : ◌≡◌ {A = ℕ} 0 1 = cc in omega arith)
+  pending_targets (Some bs) h = bytes_targets bs (bytes_eq bs free_bytes) (marked bs) _ refl h
 
 -- ---- where block 0 is read
 

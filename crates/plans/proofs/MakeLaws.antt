@@ -5,9 +5,7 @@ use Rattle.std.proofs.lemmas.Bool.{cases_Bool}
 use Rattle.fault.specs.Refusals.{not_register, number_of}
 use Rattle.fault.specs.declared.Damage.TheVariants as damage
 use Rattle.fault.specs.declared.Fault.{Fault}
-use Rattle.device.specs.declared.Entry.{Entry}
-use Rattle.device.specs.declared.Entry.TheVariants as entry
-use Rattle.device.specs.Disk.{Disk, entry_at}
+use Rattle.device.specs.Disk.{Entry, Disk, entry_at}
 use Rattle.octets.specs.Zeros.{zeros}
 use Rattle.pairing.specs.Ranges.{no_counts}
 use Rattle.pairing.specs.Reservoir.{empty}
@@ -119,14 +117,14 @@ module _ {X : Type 0} (code : ℕ) (form : X → List ℕ) (reading : List ℕ �
 
   -- a free header, the head, and zeros
   empty_rests :
-      (d : Disk) (m : ℕ) → entry_at d 0 ≡ entry.Bytes (head_of code (no_counts m)) → entry_at d 1 ≡ entry.Bytes free_bytes →
-      ((b : ℕ) → 6 ≤ b → b < 78 → entry_at d b ≡ entry.Bytes (zeros 512)) → Rests code form reading d (empty m)
+      (d : Disk) (m : ℕ) → entry_at d 0 ≡ Some (head_of code (no_counts m)) → entry_at d 1 ≡ Some free_bytes →
+      ((b : ℕ) → 6 ≤ b → b < 78 → entry_at d b ≡ Some (zeros 512)) → Rests code form reading d (empty m)
   empty_rests d m head free rest = record { free = ap header_of free ∙ free_reads; holds = held }
     where
-      held : (b : ℕ) → Laid b → entry_at d b ≡ entry.Bytes (content code form (empty m) b)
+      held : (b : ℕ) → Laid b → entry_at d b ≡ Some (content code form (empty m) b)
       held b (inl e) =
-          subst (λ b. entry_at d b ≡ entry.Bytes (content code form (empty m) b)) (sym e) (head ∙ ap entry.Bytes (sym (empty_head form code m)))
-      held b (inr h) = rest b h.0 (omega arith) ∙ ap entry.Bytes (sym (empty_rest form code m b (omega arith)))
+          subst (λ b. entry_at d b ≡ Some (content code form (empty m) b)) (sym e) (head ∙ ap Some (sym (empty_head form code m)))
+      held b (inr h) = rest b h.0 (omega arith) ∙ ap Some (sym (empty_rest form code m b (omega arith)))
 
   pub makes : Makes code form reading
   unfolding make_writes

@@ -1,12 +1,10 @@
 -- Registers that Open can bring to rest: what writing the free header leaves, and what replaying a pending call leaves.
 -- Assumes nothing.
-use Rattle.std.proofs.Common.{◌≡◌, ℕ, ◌+◌, ◌-◌, ◌<◌, ◌≤◌, true, false, List, [], ◌∷◌, length, None, Ok, Err, Option, Result, sym, refl, ap, ◌∙◌, subst, inl, inr, arith}
+use Rattle.std.proofs.Common.{◌≡◌, ℕ, ◌+◌, ◌-◌, ◌<◌, ◌≤◌, true, false, List, [], ◌∷◌, length, None, Ok, Err, Option, Result, sym, refl, ap, ◌∙◌, subst, inl, inr, arith, Some}
 use Rattle.fault.specs.declared.Damage.TheVariants as damage
 use Rattle.fault.specs.declared.Fault.{Fault}
-use Rattle.device.specs.Disk.{Disk, blocks, entry_at, put, turned, Event}
+use Rattle.device.specs.Disk.{Entry, Disk, blocks, entry_at, put, turned, Event}
 use Rattle.device.specs.Disk.{outside, offline, done, lost}
-use Rattle.device.specs.declared.Entry.{Entry}
-use Rattle.device.specs.declared.Entry.TheVariants as entry
 use Rattle.device.specs.declared.Remains.TheVariants as remains
 use Rattle.device.proofs.Disk.{put_same, entry_at_put, entry_at_put_other}
 use Rattle.pairing.specs.Reservoir.{Reservoir}
@@ -48,7 +46,7 @@ four_lawful (a ∷ b ∷ c ∷ e ∷ f ∷ ts) h = absurd (let n = h.four in ome
 pub header_four : (e : Entry) (p : Pending) → header_of e ≡ header.Pending p → Four p.blocks
 header_four e p h = four_lawful p.blocks (header_blocks e p h)
 
-pub unreadable_header : header_of entry.Unreadable ≡ header.Unreadable
+pub unreadable_header : header_of None ≡ header.Unreadable
 unfolding header_of
 unreadable_header = refl
 
@@ -70,13 +68,13 @@ module _ {X : Type 0} (code : ℕ) (form : X → List ℕ) (reading : List ℕ �
   -- if it leaves it unreadable, the blocks hold what they held
   pub stands_torn :
       (d : Disk) (r : Reservoir X) → 1 < blocks d → Holds code form (entry_at d) r →
-      Stands code form reading (turned (put d 1 entry.Unreadable) false) r
+      Stands code form reading (turned (put d 1 None) false) r
   stands_torn d r b h =
-      stands_offline (put d 1 entry.Unreadable) (torn (ap header_of (entry_at_put d 1 _ b) ∙ unreadable_header) (held_beside d _ r h))
+      stands_offline (put d 1 None) (torn (ap header_of (entry_at_put d 1 _ b) ∙ unreadable_header) (held_beside d _ r h))
 
   -- ---- the free header
 
-  free_rests : (d : Disk) (r : Reservoir X) → 1 < blocks d → Holds code form (entry_at d) r → Rests code form reading (put d 1 (entry.Bytes free_bytes)) r
+  free_rests : (d : Disk) (r : Reservoir X) → 1 < blocks d → Holds code form (entry_at d) r → Rests code form reading (put d 1 (Some free_bytes)) r
   free_rests d r b h = record {
     free = ap header_of (entry_at_put d 1 _ b) ∙ headers_read_back.free;
     holds = held_beside d _ r h;
@@ -132,7 +130,7 @@ module _ {X : Type 0} (code : ℕ) (form : X → List ℕ) (reading : List ℕ �
   ahead_held {d} {p = p} f h run b l =
       let n = four_long f in
       let clean = first_of_each (block_fault (entry_at d)) 2 4 h.images in
-      let is : (k : ℕ) → 2 ≤ k → k < 2 + length p.blocks → entry_at d k ≡ entry.Bytes (bytes_of (entry_at d k)) =
+      let is : (k : ℕ) → 2 ≤ k → k < 2 + length p.blocks → entry_at d k ≡ Some (bytes_of (entry_at d k)) =
       (λ k m o.
       let at : 2 + (k - 2) ≡ k = omega arith in
       (block_read (entry_at d) k (subst (λ j. block_fault (entry_at d) j ≡ None) at (clean (k - 2) (omega (arith, n))))).0) in

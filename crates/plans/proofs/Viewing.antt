@@ -1,11 +1,10 @@
 -- Blocks that are read from their after-images, and what writing these to their targets leaves.
 -- Assumes nothing.
-use Rattle.std.proofs.Common.{◌≡◌, ℕ, ◌+◌, ◌<◌, ◌≤◌, min, Bool, true, false, cond, ◌||◌, eqb, ◌≢◌, List, [], ◌∷◌, length, Ok, Result, sym, refl, ap, ◌∙◌, inl, inr, arith}
+use Rattle.std.proofs.Common.{◌≡◌, ℕ, ◌+◌, ◌<◌, ◌≤◌, min, Bool, true, false, cond, ◌||◌, eqb, ◌≢◌, List, [], ◌∷◌, length, Ok, Result, sym, refl, ap, ◌∙◌, inl, inr, arith, Some}
 use Rattle.std.proofs.lemmas.Bool.{eqb-true, eqb-false, ne_eqb, or_from, or_parts, cond_both}
 use Rattle.fault.specs.declared.Fault.{Fault}
 use Rattle.device.specs.Disk.{Disk, entry_at, put, Event, Wrote}
 use Rattle.device.specs.Disk.{done}
-use Rattle.device.specs.declared.Entry.TheVariants.{Bytes}
 use Rattle.device.proofs.Disk.{wrote_other, entry_at_put}
 use Rattle.journal.specs.Writes.{Ran, finished, goes_on, stops}
 use Rattle.layout.specs.Layout.{Laid}
@@ -71,18 +70,18 @@ replay_other d₀ image (t ∷ ts) (stops w) k h = wrote_other w k (λ e. eqb-fa
 step :
     (d₀ d d₁ : Disk) (t image b place : ℕ) (test : Bool) {es : List Event} → eqb t b ≡ test →
     Wrote d t (bytes_of (entry_at d₀ image)) (Ok tt) es d₁ →
-    entry_at d₀ image ≡ Bytes (bytes_of (entry_at d₀ image)) → entry_at d b ≡ entry_at d₀ place →
+    entry_at d₀ image ≡ Some (bytes_of (entry_at d₀ image)) → entry_at d b ≡ entry_at d₀ place →
     entry_at d₁ b ≡ entry_at d₀ (cond test image place)
 step d₀ d d₁ t image b place true e (done h o) is same =
     let at : t ≡ b = eqb-true t b e in
-    ap (entry_at (put d t (Bytes (bytes_of (entry_at d₀ image))))) (sym at) ∙ entry_at_put d t _ h ∙ sym is
+    ap (entry_at (put d t (Some (bytes_of (entry_at d₀ image))))) (sym at) ∙ entry_at_put d t _ h ∙ sym is
 step d₀ d d₁ t image b place false e w is same = wrote_other w b (λ at. eqb-false t b e (sym at)) ∙ same
 
 -- once all are written, each block holds what was read for it
 pub replay_done :
     (d₀ : Disk) (image : ℕ) (ts : List ℕ) {d d' : Disk} {es : List Event} → Ran (pending_changes d₀ image ts) d (Ok tt) es d' →
     image + length ts ≤ 65535 →
-    ((k : ℕ) → image ≤ k → k < image + length ts → entry_at d₀ k ≡ Bytes (bytes_of (entry_at d₀ k))) →
+    ((k : ℕ) → image ≤ k → k < image + length ts → entry_at d₀ k ≡ Some (bytes_of (entry_at d₀ k))) →
     (b place : ℕ) → entry_at d b ≡ entry_at d₀ place → entry_at d' b ≡ entry_at d₀ (place_from b place image ts)
 replay_done d₀ image [] finished low is b place same = same
 replay_done d₀ image (t ∷ ts) {d} (goes_on {d₁ = d₁} w r) low is b place same =

@@ -1,8 +1,7 @@
 -- A device's blocks, some of which are taken from their after-images.
 -- Assumes nothing.
 use Rattle.std.specs.Prelude.{ℕ, ◌+◌, min, cond, List, [], ◌∷◌, ◌==◌}
-use Rattle.device.specs.Disk.{Disk, entry_at}
-use Rattle.device.specs.declared.Entry.{Entry}
+use Rattle.device.specs.Disk.{Entry, Disk, entry_at}
 
 -- where block b is read, when the after-images of the targets stand from a block on: at the last that is its own, else at `place`
 abbrev pub place_from : ℕ → ℕ → ℕ → List ℕ → ℕ

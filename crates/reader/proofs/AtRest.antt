@@ -3,9 +3,8 @@ use Rattle.std.proofs.Common.{◌≡◌, ℕ, ◌<◌, ◌≤◌, Bool, true, no
 use Rattle.std.proofs.lemmas.Bool.{lt-ltb, le-ltb}
 use Rattle.fault.specs.Refusals.{offline, too_few_blocks}
 use Rattle.fault.specs.declared.Fault.{Fault}
-use Rattle.device.specs.Disk.{Disk, blocks, entry_at, reading}
+use Rattle.device.specs.Disk.{Entry, Disk, blocks, entry_at, reading}
 use Rattle.device.specs.declared.DeviceError.{DeviceError}
-use Rattle.device.specs.declared.Entry.{Entry}
 use Rattle.device.proofs.Disk.{reading_ok, reading_err}
 use Rattle.journal.specs.Header.{header_of, free_or_refused}
 use Rattle.layout.specs.Reading.{decode}

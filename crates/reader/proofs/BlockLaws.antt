@@ -1,12 +1,10 @@
 -- Lemmas on the blocks of a view.
-use Rattle.std.proofs.Common.{◌≡◌, ℕ, ◌+◌, ◌<◌, ◌≤◌, min, true, cond, eqb, List, length, get_or, drop, Ok, Err, Result, sym, ap, ◌∙◌, arith}
+use Rattle.std.proofs.Common.{◌≡◌, ℕ, ◌+◌, ◌<◌, ◌≤◌, min, true, cond, eqb, List, length, get_or, drop, Ok, Err, Result, sym, ap, ◌∙◌, arith, Some}
 use Rattle.std.proofs.lemmas.List.{drop_all, drop_more}
 use Rattle.fault.specs.declared.Damage.TheVariants as damage
 use Rattle.fault.specs.declared.Fault.{Fault}
-use Rattle.device.specs.Disk.{Disk, reading}
+use Rattle.device.specs.Disk.{Entry, Disk, reading}
 use Rattle.device.specs.declared.DeviceError.{DeviceError}
-use Rattle.device.specs.declared.Entry.{Entry}
-use Rattle.device.specs.declared.Entry.TheVariants.{Bytes}
 use Rattle.device.proofs.Disk.{reading_online}
 use Rattle.layout.specs.Reading.{unless_fault, bytes_of, is_block, readable, unless}
 use Rattle.plans.specs.Views.{place_from, viewed}
@@ -49,7 +47,7 @@ view_fails d first targets b p x r at got s h = absurd (not_both (got ∙ view_r
     not_both q = let z : ◌≡◌ {A = ℕ} 0 1 = cc in omega arith
 
 pub whole_bytes :
-    (e : Entry) (xs : List ℕ) (b : ℕ) → e ≡ Bytes xs → is_block xs ≡ true →
+    (e : Entry) (xs : List ℕ) (b : ℕ) → e ≡ Some xs → is_block xs ≡ true →
     ◌≡◌ {A = Result (List ℕ) Fault} (Ok xs) (unless_fault (unless (readable e) b damage.Unreadable) (bytes_of e))
 whole_bytes e xs b is h =
     sym (ap (λ t. unless_fault (unless t b damage.Unreadable) xs) h)

@@ -4,14 +4,13 @@ use Rattle.std.proofs.lemmas.List.{get_or-set_same, get_or-set_other}
 use Rattle.std.proofs.lemmas.Bool.{cond-true, cond-false, lt-ltb, le-ltb, eq-eqb, ne_eqb, eqb-true, eqb-false, cases_eq, and_right, or_left, not_from_true}
 use Rattle.fault.specs.declared.Damage.TheVariants as damage
 use Rattle.fault.specs.declared.Fault.{Fault}
-use Rattle.device.specs.declared.Entry.{Entry}
-use Rattle.device.specs.declared.Entry.TheVariants.{Bytes, Unreadable}
 use Rattle.pairing.specs.Reservoir.{without}
 use Rattle.octets.specs.Numbers.{number_at}
 use Rattle.layout.specs.Reading.{unless_fault, or_else, first_of, used_fault, unused_fault, slot_fault, slot_in, number_in, left_at, earlier, in_set, stock_in, bytes_of, block_fault, slots_fault, unless, readable}
 use Rattle.reader.specs.Reads.{Gathered, SlotsRead}
 use Rattle.reader.proofs.Rests.{no_fault, a_fault, err_not_ok, exit_is, Rest, rest_none, rest_more, rest_stops, rest_all}
 use Rattle.reader.specs.declared.slots.Sampled.{Sampled}
+use Rattle.device.specs.Disk.{Entry}
 
 pub slots_exit :
     {view : ℕ → Entry} {k next : ℕ} {fault : Option Fault} {r : Result (Unit {0}) Fault} {s : Sampled} {x : Fault} →
@@ -154,7 +153,7 @@ module _ (fault : ℕ → Option Fault) (view : ℕ → Entry) (k start n : ℕ)
 
 -- the bytes of a slot, in the bytes of its block
 pub slot_there :
-    (view : ℕ → Entry) (j i at : ℕ) (xs : List ℕ) → i < 8 → at ≡ 8 * j + i → view (14 + j) ≡ Bytes xs →
+    (view : ℕ → Entry) (j i at : ℕ) (xs : List ℕ) → i < 8 → at ≡ 8 * j + i → view (14 + j) ≡ Some xs →
     slot_in view at ≡ take 64 (drop (64 * (at % 8)) xs)
 unfolding slot_in
 slot_there view j i at xs h e is =
@@ -175,15 +174,15 @@ from_zero j = omega arith
 -- a block that can be read
 pub block_there :
     (view : ℕ → Entry) (b : ℕ) (xs : List ℕ) → Ok xs ≡ unless_fault (block_fault view b) (bytes_of (view b)) →
-    (block_fault view b ≡ None) × (view b ≡ Bytes xs)
+    (block_fault view b ≡ None) × (view b ≡ Some xs)
 block_there view b xs is = (ok.0, by_entry (view b) refl)
   where
     ok : (block_fault view b ≡ None) × (xs ≡ bytes_of (view b))
     ok = no_fault _ _ _ is
 
-    by_entry : (e : Entry) → view b ≡ e → view b ≡ Bytes xs
-    by_entry (Bytes ys) q = q ∙ ap Bytes (sym (ok.1 ∙ ap bytes_of q))
-    by_entry Unreadable q =
+    by_entry : (e : Entry) → view b ≡ e → view b ≡ Some xs
+    by_entry (Some ys) q = q ∙ ap Some (sym (ok.1 ∙ ap bytes_of q))
+    by_entry None q =
         absurd (some_none (sym ok.0 ∙ ap (λ e. unless (readable e) b damage.Unreadable) q))
 
 module _ {X : Type 0} (reading : List ℕ → Option X) (view : ℕ → Entry) (k : ℕ) where

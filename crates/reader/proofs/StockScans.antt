@@ -2,13 +2,13 @@
 use Rattle.std.proofs.Common.{◌≡◌, ℕ, ◌+◌, ◌*◌, ◌<◌, ltb, List, length, take, None, Ok, Err, Result, sym, refl, ap, ◌∙◌, arith, length-append, length-drop, length-take}
 use Rattle.std.proofs.lemmas.Bool.{cond-true, lt-ltb}
 use Rattle.fault.specs.declared.Fault.{Fault}
-use Rattle.device.specs.declared.Entry.{Entry}
 use Rattle.octets.specs.Edits.{written}
 use Rattle.layout.specs.Edits.{with_part}
 use Rattle.layout.specs.Layout.{joined}
 use Rattle.layout.specs.Reading.{unless_fault, first_of, block_fault, bytes_of, stock_in}
 use Rattle.layout.proofs.Blocks.{parts_more, parts_all}
 use Rattle.reader.proofs.Rests.{no_fault, a_fault, Rest, rest_none, rest_more, rest_stops, rest_all}
+use Rattle.device.specs.Disk.{Entry}
 
 -- the first j blocks of the stock were read
 pub record StockSoFar (view : ℕ → Entry) (j : ℕ) (bytes : List ℕ) : Type 0 where

@@ -5,7 +5,6 @@ use Rattle.std.proofs.lemmas.Bool.{eq-eqb, ne_eqb}
 use Rattle.fault.specs.Refusals.{not_register}
 use Rattle.fault.specs.declared.Damage.TheVariants as damage
 use Rattle.fault.specs.declared.Fault.{Fault}
-use Rattle.device.specs.declared.Entry.{Entry}
 use Rattle.pairing.specs.Reservoir.{Slot, Reservoir}
 use Rattle.pairing.specs.Rules.{occurs}
 use Rattle.pairing.specs.Steps.{counts_of}
@@ -16,6 +15,7 @@ use Rattle.layout.proofs.SlotLaws.{SlotsExact, number_of}
 use Rattle.reader.specs.Reads.{Gathered, Finds, ReadAs}
 use Rattle.reader.proofs.Rests.{no_fault, a_fault, exit_is}
 use Rattle.reader.specs.declared.Found.{Found}
+use Rattle.device.specs.Disk.{Entry}
 
 module _ {X : Type 0} (code : ℕ) (reading : List ℕ → Option X) (view : ℕ → Entry) where
   abbrev counts : Counts

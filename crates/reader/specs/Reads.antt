@@ -3,8 +3,7 @@
 use Rattle.std.specs.Prelude.{◌≡◌, ℕ, ◌<◌, ◌≤◌, min, true, ◌&&◌, List, map, length, take, Some, None, Ok, Err, Option, Result, MatchResult, ◌==◌, slice_index}
 use Rattle.std.specs.Result.{result_map_both}
 use Rattle.fault.specs.declared.Fault.{Fault}
-use Rattle.device.specs.Disk.{Disk, blocks}
-use Rattle.device.specs.declared.Entry.{Entry}
+use Rattle.device.specs.Disk.{Entry, Disk, blocks}
 use Rattle.pairing.specs.Reservoir.{Reservoir}
 use Rattle.pairing.specs.Rules.{occurs}
 use Rattle.pairing.specs.Steps.{counts_of}

@@ -1,6 +1,5 @@
-ghost use Rattle.std.specs.Prelude.{◌≡◌, ℕ, ◌+◌, ◌*◌, ◌<◌, ◌≤◌};
-ghost use Rattle.device.specs.declared.Entry.{Entry};
-ghost use Rattle.device.specs.declared.Entry.TheVariants.{Bytes};
+ghost use Rattle.std.specs.Prelude.{◌≡◌, ℕ, ◌+◌, ◌*◌, ◌<◌, ◌≤◌, Some};
+ghost use Rattle.device.specs.Disk.{Entry};
 ghost use Rattle.layout.specs.Reading.{first_of, slot_fault, slot_in};
 ghost use Rattle.reader.specs.Reads.{Gathered, SlotsRead};
 
@@ -26,7 +25,7 @@ impl Sampled {
         k: u16,
     ) -> Result<(), Fault>
         requires { j < 64 }
-        ensures { (view : ℕ → Entry) → view (14 + j) ≡ Bytes bytes.now → Gathered view k (8 * j) self.old → SlotsRead view k (8 * j + 8) (first_of (slot_fault K.Kind.reading view k (14 + j)) (8 * j) 8) result self.new }
+        ensures { (view : ℕ → Entry) → view (14 + j) ≡ Some bytes.now → Gathered view k (8 * j) self.old → SlotsRead view k (8 * j + 8) (first_of (slot_fault K.Kind.reading view k (14 + j)) (8 * j) 8) result self.new }
     {
         for i in 0..8 {
             let slot = 8 * j + i;

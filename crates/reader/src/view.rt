@@ -52,7 +52,7 @@ fn whole(entry: Entry, block: u16) -> Result<[u8; 512], Fault>
     ensures { result ≡ unless_fault (unless (readable entry) block damage.Unreadable) (bytes_of entry) }
 {
     match entry {
-        Entry::Bytes(bytes) => Ok(bytes),
-        Entry::Unreadable => Err(Fault::not_register(block, Damage::Unreadable)),
+        Some(bytes) => Ok(bytes),
+        None => Err(Fault::not_register(block, Damage::Unreadable)),
     }
 }

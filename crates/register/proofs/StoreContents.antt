@@ -1,7 +1,6 @@
 -- The bytes of the blocks that a store changes are those of the reservoir after it.
 -- Assumes nothing.
 use Rattle.std.proofs.Common.{◌≡◌, ℕ, ◌+◌, ◌/◌, ◌<◌, ◌≤◌, min, List, length, Some, None, Option, sym, refl, ap, ◌∙◌, arith}
-use Rattle.device.specs.declared.Entry.TheVariants.{Bytes}
 use Rattle.words.specs.declared.draws.Drawn.{Drawn}
 use Rattle.pairing.specs.Reservoir.{Slot, Reservoir, store, effect, placed, filled_by, with}
 use Rattle.pairing.specs.Rules.{Lawful}
@@ -47,8 +46,8 @@ store_block_high slot = omega (arith, store_block_lem slot)
 
 module _ {X : Type 0} (code : ℕ) (form : X → List ℕ) where
   -- the bytes of each block
-  parts : (r : Reservoir X) → Parts code form (λ b. Bytes (content code form r b)) r
-  parts r = parts_held code form (λ b. Bytes (content code form r b)) r (λ b l. refl)
+  parts : (r : Reservoir X) → Parts code form (λ b. Some (content code form r b)) r
+  parts r = parts_held code form (λ b. Some (content code form r b)) r (λ b l. refl)
 
   slots_are : (r : Reservoir X) (j : ℕ) → j < 64 → content code form r (14 + j) ≡ slot_block form r.slots j
   slots_are r j h = ap bytes_of ((parts r).slots j h)

@@ -1,9 +1,8 @@
 -- A store that can be made: its step, its changes, and the plan that they make.
 -- Assumes nothing.
-use Rattle.std.proofs.Common.{◌≡◌, ℕ, ◌/◌, ◌<◌, ◌≤◌, true, ltb, List, [], ◌∷◌, length, Ok, Err, Option, Result, sym, ap, ◌∙◌, subst, inr, arith}
+use Rattle.std.proofs.Common.{◌≡◌, ℕ, ◌/◌, ◌<◌, ◌≤◌, true, ltb, List, [], ◌∷◌, length, Ok, Err, Option, Result, sym, ap, ◌∙◌, subst, inr, arith, Some}
 use Rattle.fault.specs.declared.Fault.{Fault}
 use Rattle.device.specs.Disk.{Disk, entry_at}
-use Rattle.device.specs.declared.Entry.TheVariants.{Bytes}
 use Rattle.octets.specs.Zeros.{every}
 use Rattle.words.specs.declared.draws.Drawn.{Drawn}
 use Rattle.pairing.specs.Reservoir.{Reservoir, store, width, with}
@@ -77,7 +76,7 @@ module _ {X : Type 0} (code : ℕ) (form : X → List ℕ) (d : Disk) (f : Found
         let lawful = rested.storable.lawful in
         let is : o ≡ filled_slot r drawn = e ∙ filled before from in
         let low = store_block_low r lawful drawn in
-        let there : entry_at d target ≡ Bytes (content code form r target) =
+        let there : entry_at d target ≡ Some (content code form r target) =
         rested.holds target (inr (omega (arith, store_block_high (filled_slot r drawn)), omega (arith, low))) in
         let none = block_reads (entry_at d) target (content code form r target) there (content_is_block code form sized bounded r target) in
         told rested.steady (subst (λ z. store_block z < 78) (sym is) low)

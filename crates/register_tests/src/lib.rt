@@ -157,7 +157,7 @@ mod tests {
             (1, (4, 1, 0)),
         ] {
             let mut entries = good;
-            entries[block] = Entry::Unreadable;
+            entries[block] = None;
             let device = lost_after(&mut entries, 0, Remains::Old);
             match same::<Label, Failing, Failing>(&device, &device) {
                 Ok(_) => return Err(Fail::new("an unreadable block")),
@@ -209,7 +209,7 @@ mod tests {
 
     // A register with capacity 2 and packs 10 and 11, or only 10.
     fn two_packs(packs: u16) -> Result<[Entry; 78], Fail> {
-        let mut entries = [Entry::Bytes([0; 512]); 78];
+        let mut entries = [Some([0; 512]); 78];
         let mut device = lost_after(&mut entries, 1000, Remains::Old);
         let tape = word(0);
         let source = Tape { bytes: &tape };

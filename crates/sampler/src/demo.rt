@@ -28,7 +28,7 @@ const WORDS: [u8; 12] = [2, 0, 0, 0, 0, 0, 0, 0, 1, 0, 0, 0];
 const GOOD_WRITES: u16 = 75 + 4 * 10 + 6;
 
 pub(crate) fn demo(rt: &HostRuntime) -> anyhow::Result<()> {
-    let mut entries = [Entry::Bytes([0; 512]); 78];
+    let mut entries = [Some([0; 512]); 78];
     let mut out = BufWriter::new(rt.alloc(), rt.stdout())?;
     scan_until_failure(rt, &mut out, &mut entries)?;
     open_and_report(rt, &mut out, &mut entries)?;

@@ -4,7 +4,6 @@ use Rattle.std.proofs.Common.{◌≡◌, ℕ, zero, suc, Bool, true, false, ◌�
 use Rattle.fault.specs.declared.Fault.{Fault}
 use Rattle.device.specs.Disk.{Disk, Event, write_done, write_lost, online_done, online_refused, entry_at}
 use Rattle.device.specs.Disk as disk
-use Rattle.device.specs.declared.Entry.TheVariants as entry
 use Rattle.device.specs.declared.Remains.TheVariants as remains
 use Rattle.device.proofs.Disk.{wrote_other, entry_at_put, put_same}
 use Rattle.journal.specs.Header.{header_of, free_bytes}
@@ -91,7 +90,7 @@ pub data Shape : List (Option ℕ) → List Write → Type 0 where
   ends : Shape [] []
   beside : {w : Write} {ss : List (Option ℕ)} {ws : List Write} → 1 ≢ w.block → Shape ss ws → Shape (None ∷ ss) (w ∷ ws)
   headed :
-      {bytes : List ℕ} {n : ℕ} {ss : List (Option ℕ)} {ws : List Write} → owed (header_of (entry.Bytes bytes)) ≡ n → Shape ss ws →
+      {bytes : List ℕ} {n : ℕ} {ss : List (Option ℕ)} {ws : List Write} → owed (header_of (Some bytes)) ≡ n → Shape ss ws →
       Shape (Some n ∷ ss) (write_at 1 bytes ∷ ws)
 
 pub ran_left :
@@ -123,14 +122,14 @@ abbrev pub owed_shape : ℕ → List (Option ℕ)
 owed_shape zero = []
 owed_shape (suc n) = freeing n
 
-frees : owed (header_of (entry.Bytes free_bytes)) ≡ 0
+frees : owed (header_of (Some free_bytes)) ≡ 0
 frees = ap owed headers_read_back.free
 
 apart : (t : ℕ) → Laid t → 1 ≢ t
 apart t l e = laid_apart t 1 l (omega arith) (omega arith) (sym e)
 
 pub commit_shape :
-    (bytes : ℕ → List ℕ) (new : List ℕ) {ts : List ℕ} → Four ts → owed (header_of (entry.Bytes new)) ≡ 5 →
+    (bytes : ℕ → List ℕ) (new : List ℕ) {ts : List ℕ} → Four ts → owed (header_of (Some new)) ≡ 5 →
     Shape ten (commit_writes 2 new (map (λ t. write_at t (bytes t)) ts))
 commit_shape bytes new (four t₀ t₁ t₂ t₃ l₀ l₁ l₂ l₃) e =
     beside (λ z. omega arith) (beside (λ z. omega arith) (beside (λ z. omega arith) (beside (λ z. omega arith)

@@ -6,8 +6,7 @@ use Rattle.std.proofs.lemmas.Bool.{cond-false, eqb-true, ne_eqb}
 use Rattle.fault.specs.Refusals.{not_register, number_too_large, too_short}
 use Rattle.fault.specs.declared.Damage.TheVariants as damage
 use Rattle.fault.specs.declared.Fault.{Fault}
-use Rattle.device.specs.Disk.{Disk, Event, online_done, entry_at, turned}
-use Rattle.device.specs.declared.Entry.{Entry}
+use Rattle.device.specs.Disk.{Entry, Disk, Event, online_done, entry_at, turned}
 use Rattle.pairing.specs.Ranges.{Ranges}
 use Rattle.pairing.specs.Reservoir.{Reservoir}
 use Rattle.pairing.specs.Steps.{counts_of}

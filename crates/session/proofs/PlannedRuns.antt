@@ -4,7 +4,6 @@ use Rattle.std.proofs.Common.{◌≡◌, ℕ, ◌+◌, Bool, true, false, ltb, L
 use Rattle.std.proofs.lemmas.Bool.{both_ways, ltb-true, ltb-false}
 use Rattle.fault.specs.declared.Fault.{Fault}
 use Rattle.device.specs.declared.DeviceError.{DeviceError}
-use Rattle.device.specs.declared.Entry.TheVariants as entry
 use Rattle.device.specs.declared.Remains.{Remains}
 use Rattle.device.specs.Disk.{Disk, blocks, put, Event, write_done, write_lost, online_done, online_refused, Wrote}
 use Rattle.device.specs.Disk.{outside, offline, done, lost}
@@ -121,7 +120,7 @@ module _ (plan : Plan) where
   ran_first :
       (w o : ℕ) (v : Write) (ws : List Write) (d : Disk) (has on : Bool) → ltb v.block (blocks d) ≡ has → d.online ≡ on →
       (remains : Option Remains) → plan.lost (w + 1) ≡ remains →
-      By plan (w + 1) o (Ran ws (put d v.block (entry.Bytes v.bytes))) → By plan w o (Ran (v ∷ ws) d)
+      By plan (w + 1) o (Ran ws (put d v.block (Some v.bytes))) → By plan w o (Ran (v ∷ ws) d)
   ran_first w o v ws d false on h k remains e rest =
       record { answer = _; events = []; disk = d; is = stops (outside (ltb-false v.block (blocks d) h)); planned = planned.end }
   ran_first w o v ws d true false h k remains e rest =
@@ -144,4 +143,4 @@ module _ (plan : Plan) where
   pub ran_by : (ws : List Write) (w o : ℕ) (d : Disk) → By plan w o (Ran ws d)
   ran_by [] w o d = record { answer = Ok tt; events = []; disk = d; is = finished; planned = planned.end }
   ran_by (v ∷ ws) w o d =
-      ran_first w o v ws d _ _ refl refl _ refl (ran_by ws (w + 1) o (put d v.block (entry.Bytes v.bytes)))
+      ran_first w o v ws d _ _ refl refl _ refl (ran_by ws (w + 1) o (put d v.block (Some v.bytes)))

@@ -4,8 +4,8 @@ use Rattle.reader.proofs.BlockLaws.{whole_bytes}
 use Rattle.octets.proofs.Under.{under_from}
 use Rattle.layout.proofs.Blocks.{block_from}
 
-pub returns-in-Bytes : goal.returns-in-Bytes
-returns-in-Bytes c =
-    let l : length c.in-Bytes.bytes ≡ 512 = search rules in
-    let e : (i : ℕ) → get_or c.in-Bytes.bytes i 0 < 256 = (λ i. search rules) in
-    whole_bytes _ _ c.args.block c.in-Bytes.is (block_from _ l (under_from _ e))
+pub returns-in-Some : goal.returns-in-Some
+returns-in-Some c =
+    let l : length c.in-Some.bytes ≡ 512 = search rules in
+    let e : (i : ℕ) → get_or c.in-Some.bytes i 0 < 256 = (λ i. search rules) in
+    whole_bytes _ _ c.args.block c.in-Some.is (block_from _ l (under_from _ e))

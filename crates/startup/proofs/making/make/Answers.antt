@@ -1,4 +1,4 @@
-use Rattle.std.proofs.Common.{Some, sym, ap, ◌∙◌}
+use Rattle.std.proofs.Common.{sym, ap, ◌∙◌, Some}
 use Rattle.journal.proofs.Writes.{exit_is}
 use Rattle.layout.specs.Layout.{head_of}
 use Rattle.startup.proofs.Starts.{performs_early, performs_refused, performs_on}

@@ -1,5 +1,4 @@
-use Rattle.std.proofs.Common.{◌<◌, Ok, sym, ap, ◌∙◌, arith}
-use Rattle.device.specs.declared.Entry.TheVariants.{Bytes}
+use Rattle.std.proofs.Common.{◌<◌, Ok, sym, ap, ◌∙◌, arith, Some}
 use Rattle.device.specs.ImageDisk.{blocks_in, disk_in}
 use Rattle.device.proofs.Disk.{reading_outside, reading_online}
 use Rattle.device.proofs.ImageDisk.{blocks_disk_in, online_disk_in, entry_at_disk_in, block_within}
@@ -13,7 +12,7 @@ pub returns-then-block-count : goal.returns-then-block-count
 returns-then-block-count c =
     let bytes = c.args.self.now.bytes.now in
     let h : c.args.block < blocks_in bytes = omega (arith, blocks_disk_in bytes) in
-    ap (λ xs. Ok (Bytes xs)) c.block_in.ensures
+    ap (λ xs. Ok (Some xs)) c.block_in.ensures
     ∙ ap Ok (sym (entry_at_disk_in bytes c.args.block h))
     ∙ sym (reading_online (disk_in bytes) c.args.block (omega arith) (online_disk_in bytes))
 

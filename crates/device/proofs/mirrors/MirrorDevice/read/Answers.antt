@@ -26,5 +26,5 @@ pub returns : goal.returns
 returns g c =
     let l = g.L.Device.meaning c.args.self.now.left in
     let r = g.R.Device.meaning c.args.self.now.right in
-    ap Ok c.prefer.ensures
+    ap Ok c.or.ensures
     ∙ sym (both_read l r c.args.block _ _ c.in_ok-left.ensures c.in_ok-right.ensures)

@@ -2,10 +2,10 @@ use Rattle.std.proofs.Common.{rules}
 use Rattle.journal.specs.Header.{header_of}
 use Rattle.journal.proofs.headers.Header.read.Goals as goal
 
-pub returns-in-Bytes : goal.returns-in-Bytes
+pub returns-in-Some : goal.returns-in-Some
 unfolding header_of
-returns-in-Bytes c = search rules
+returns-in-Some c = search rules
 
-pub returns-in-Unreadable : goal.returns-in-Unreadable
+pub returns-in-None : goal.returns-in-None
 unfolding header_of
-returns-in-Unreadable c = search rules
+returns-in-None c = search rules
