@@ -2,6 +2,7 @@
 -- Assumes nothing.
 use Rattle.std.specs.Prelude.{◌≡◌, ℕ, List, [], Ok, Err, Option, Result}
 use Rattle.std.specs.Result.{result_map_both}
+use Rattle.items.specs.declared.kind.Kind as trait_of
 use Rattle.fault.specs.declared.Fault.{Fault}
 use Rattle.device.specs.Disk.{Disk, Event}
 use Rattle.pairing.specs.Reservoir.{Reservoir}
@@ -18,6 +19,10 @@ pub record Kind (X : Type 0) : Type 0 where
   pub code : ℕ
   pub form : X → List ℕ
   pub reading : List ℕ → Option X
+
+-- the kind of the items of a type, as its trait says
+abbrev pub kind_of : {X : Type 0} → trait_of.Ghosts X → Kind X
+kind_of k = record { code = k.code; form = k.form; reading = k.reading }
 
 -- what is asked; a Store brings the words that it may draw from
 pub data Request (X : Type 0) : Type 0 where

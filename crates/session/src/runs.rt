@@ -3,6 +3,7 @@ ghost use Rattle.std.specs.Prelude.{◌≡◌, ℕ, ◌<◌, ◌≤◌, List, ma
 ghost use Rattle.fault.specs.Refusals.{too_short};
 ghost use Rattle.pairing.specs.Reservoir.{Reservoir};
 ghost use Rattle.session.specs.Calls as session;
+ghost use Rattle.session.specs.Calls.{kind_of};
 ghost use Rattle.session.specs.Asked.{asked_request, asked, Does, DoesCall, Ended};
 ghost use Rattle.session.specs.Law.{Fairness};
 ghost use Rattle.session.specs.Runs.{Keeps, RanFrom, ResumedFrom};
@@ -26,7 +27,7 @@ fn perform_store<I: Kind, S: Source, D: Device>(
 ) -> Reply
     ensures { (page : List ℕ) →
         Does
-        (record { code = I.Kind.code; form = I.Kind.form; reading = I.Kind.reading })
+        (kind_of I.Kind)
         (D.Device.meaning device.old)
         page
         (session.Store number item.now (S.Source.words source.now))
@@ -40,15 +41,7 @@ fn perform_store<I: Kind, S: Source, D: Device>(
 
 // Takes a pack.
 fn perform_take<I: Kind, D: Device>(device: &mut D, number: u16) -> Reply
-    ensures { (page : List ℕ) →
-        Does
-        (record { code = I.Kind.code; form = I.Kind.form; reading = I.Kind.reading })
-        (D.Device.meaning device.old)
-        page
-        (session.Take number)
-        result
-        (D.Device.meaning device.new)
-        page }
+    ensures { (page : List ℕ) → Does (kind_of I.Kind) (D.Device.meaning device.old) page (session.Take number) result (D.Device.meaning device.new) page }
 {
     let (calls, slot) = take::<I, D>(device, number)?;
     Ok(Answer::Taken(calls, slot))
@@ -56,14 +49,7 @@ fn perform_take<I: Kind, D: Device>(device: &mut D, number: u16) -> Reply
 
 // Reports the counters, and fills the page.
 fn perform_report<I: Kind, D: Device>(device: &D, page: &mut [u8]) -> Reply
-    ensures { Does
-        (record { code = I.Kind.code; form = I.Kind.form; reading = I.Kind.reading })
-        (D.Device.meaning device.now)
-        page.old
-        session.Report
-        result
-        (D.Device.meaning device.now)
-        page.new }
+    ensures { Does (kind_of I.Kind) (D.Device.meaning device.now) page.old session.Report result (D.Device.meaning device.now) page.new }
 {
     let counts = report::<I, D>(device, page)?;
     Ok(Answer::Reported(counts))
@@ -71,15 +57,7 @@ fn perform_report<I: Kind, D: Device>(device: &D, page: &mut [u8]) -> Reply
 
 // Opens the register.
 fn perform_open<I: Kind, D: Device>(device: &mut D) -> Reply
-    ensures { (page : List ℕ) →
-        Does
-        (record { code = I.Kind.code; form = I.Kind.form; reading = I.Kind.reading })
-        (D.Device.meaning device.old)
-        page
-        session.Open
-        result
-        (D.Device.meaning device.new)
-        page }
+    ensures { (page : List ℕ) → Does (kind_of I.Kind) (D.Device.meaning device.old) page session.Open result (D.Device.meaning device.new) page }
 {
     let opened = open::<I, D>(device)?;
     Ok(Answer::Opened(opened))
@@ -91,14 +69,7 @@ fn perform<I: Kind, S: Source, D: Device>(
     request: &Request<I, S>,
     page: &mut [u8],
 ) -> Reply
-    ensures { Does
-        (record { code = I.Kind.code; form = I.Kind.form; reading = I.Kind.reading })
-        (D.Device.meaning device.old)
-        page.old
-        (asked_request S.Source.words request.now)
-        result
-        (D.Device.meaning device.new)
-        page.new }
+    ensures { Does (kind_of I.Kind) (D.Device.meaning device.old) page.old (asked_request S.Source.words request.now) result (D.Device.meaning device.new) page.new }
 {
     match request {
         Request::Store {
@@ -118,15 +89,7 @@ fn perform_call<K: Kind, J: Kind, S: Source, D: Device>(
     call: &Call<K, J, S>,
     page: &mut [u8],
 ) -> Reply
-    ensures { DoesCall
-        (record { code = K.Kind.code; form = K.Kind.form; reading = K.Kind.reading })
-        (record { code = J.Kind.code; form = J.Kind.form; reading = J.Kind.reading })
-        (D.Device.meaning device.old)
-        page.old
-        (asked S.Source.words call.now)
-        result
-        (D.Device.meaning device.new)
-        page.new }
+    ensures { DoesCall (kind_of K.Kind) (kind_of J.Kind) (D.Device.meaning device.old) page.old (asked S.Source.words call.now) result (D.Device.meaning device.new) page.new }
 {
     match call {
         Call::Own(request) => perform(device, request, page),
@@ -152,10 +115,10 @@ fn perform_all<K: Kind, J: Kind, S: Source, D: Device>(
     requires { length calls.now ≤ length replies.old }
     ensures { (K.Kind.code ≢ J.Kind.code) →
         (s : Reservoir K) →
-        Keeps (record { code = K.Kind.code; form = K.Kind.form; reading = K.Kind.reading }) (D.Device.meaning device.old) s →
+        Keeps (kind_of K.Kind) (D.Device.meaning device.old) s →
         Ended
-        (record { code = K.Kind.code; form = K.Kind.form; reading = K.Kind.reading })
-        (record { code = J.Kind.code; form = J.Kind.form; reading = J.Kind.reading })
+        (kind_of K.Kind)
+        (kind_of J.Kind)
         (D.Device.meaning device.old)
         page.old
         s
@@ -192,8 +155,8 @@ pub fn run<K: Kind, J: Kind, S: Source, D: Device>(
 ) -> Result<(), Fault>
     ensures run { (K.Kind.code ≢ J.Kind.code) →
         RanFrom
-        (record { code = K.Kind.code; form = K.Kind.form; reading = K.Kind.reading })
-        (record { code = J.Kind.code; form = J.Kind.form; reading = J.Kind.reading })
+        (kind_of K.Kind)
+        (kind_of J.Kind)
         (D.Device.meaning device.old)
         page.old
         (map (asked S.Source.words) calls.now)
@@ -203,10 +166,7 @@ pub fn run<K: Kind, J: Kind, S: Source, D: Device>(
         (D.Device.meaning device.new)
         page.new
         replies.new }
-    ensures fair { (K.Kind.code ≢ J.Kind.code) →
-        Fairness
-        (record { code = K.Kind.code; form = K.Kind.form; reading = K.Kind.reading })
-        (record { code = J.Kind.code; form = J.Kind.form; reading = J.Kind.reading }) }
+    ensures fair { (K.Kind.code ≢ J.Kind.code) → Fairness (kind_of K.Kind) (kind_of J.Kind) }
 {
     check_places(calls, replies)?;
     make::<K, D>(device, capacity)?;
@@ -223,8 +183,8 @@ pub fn resume<K: Kind, J: Kind, S: Source, D: Device>(
 ) -> Result<Opened, Fault>
     ensures run { (K.Kind.code ≢ J.Kind.code) →
         ResumedFrom
-        (record { code = K.Kind.code; form = K.Kind.form; reading = K.Kind.reading })
-        (record { code = J.Kind.code; form = J.Kind.form; reading = J.Kind.reading })
+        (kind_of K.Kind)
+        (kind_of J.Kind)
         (D.Device.meaning device.old)
         page.old
         (map (asked S.Source.words) calls.now)
