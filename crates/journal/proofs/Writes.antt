@@ -1,6 +1,6 @@
 -- What follows from a run of writes.
 -- Assumes nothing.
-use Rattle.std.proofs.Common.{◌≡◌, ℕ, zero, suc, ◌+◌, ◌<◌, true, false, List, [], ◌∷◌, ◌++◌, length, get_or, drop, replicate, IsErrAnd, Ok, Err, Result, sym, refl, ap, ◌∙◌, subst, arith, Some}
+use Rattle.std.proofs.Common.{◌≡◌, ℕ, zero, suc, ◌+◌, ◌<◌, true, false, List, [], ◌∷◌, ◌++◌, length, get_or, drop, replicate, IsErrAnd, MatchResult, Ok, Err, Result, sym, refl, ap, ◌∙◌, subst, arith, Some}
 use Rattle.std.specs.List.{AllByRecursion}
 use Rattle.std.proofs.lemmas.List.{drop_more}
 use Rattle.std.proofs.lemmas.Bool.{both_ways}
@@ -204,6 +204,16 @@ pub runs_refused :
     f ≡ refusals.offline w.block → Runs (w ∷ []) d (Err f) d'
 runs_refused {d} {d'} {w} h e = subst (λ f. Runs (w ∷ []) d (Err f) d') (sym e) (runs (stops h.wrote))
 
+pub exit_is : {T : Type 0} {r : Result T Fault} {x : Fault} → IsErrAnd r (λ y. y ≡ x) → r ≡ Err x
+exit_is {T} {r} {x} h = let p = err_from_is_err_and r h in p.1 ∙ ap Err p.2
+
+-- a write whose refusal is answered with its block
+pub runs_answered :
+    {d d' : Disk} {w : Write} (r : Result (Unit {0}) DeviceError) {a : Result (Unit {0}) Fault} → Writes d w.block w.bytes r d' →
+    MatchResult r (λ x. a ≡ Ok x) (λ _. IsErrAnd a (λ f. f ≡ refusals.offline w.block)) → Runs (w ∷ []) d a d'
+runs_answered {d} {d'} {w} (Ok tt) h e = subst (λ a. Runs (w ∷ []) d a d') (sym e) (runs_one h)
+runs_answered {d} {d'} {w} (Err x) h e = subst (λ a. Runs (w ∷ []) d a d') (sym (exit_is e)) (runs_refused h refl)
+
 -- the same write under another name
 pub runs_as :
     {d d' : Disk} {v w : Write} {a : Result (Unit {0}) Fault} → v ≡ w → Runs (v ∷ []) d a d' → Runs (w ∷ []) d a d'
@@ -233,8 +243,3 @@ pub images_more :
 images_more b next ws i z h e =
     ap (images_from b) (drop_more ws i z h)
     ∙ ap (λ k. write_at b (get_or ws i z).bytes ∷ images_from k (drop (i + 1) ws)) (sym e)
-
--- ---- the exit of a `?`
-
-pub exit_is : {T : Type 0} {r : Result T Fault} {x : Fault} → IsErrAnd r (λ y. y ≡ x) → r ≡ Err x
-exit_is {T} {r} {x} h = let p = err_from_is_err_and r h in p.1 ∙ ap Err p.2

@@ -14,6 +14,7 @@ use Rattle.journal.specs.declared.headers.PendingCall.{PendingCall}
 use Rattle.journal.specs.declared.headers.PendingCall.TheVariants.{Store, Take}
 use Rattle.journal.specs.declared.headers.fields.CallFields.{CallFields}
 use Rattle.journal.specs.declared.headers.fields.Fields.{Fields}
+use Rattle.journal.specs.declared.headers.fields.OutOfRange.{OutOfRange}
 use Rattle.device.specs.Disk.{Entry}
 
 -- ---- bytes
@@ -134,3 +135,7 @@ free_or_refused header.Unreadable = Err not_free
 free_or_refused (header.Pending p) = Err not_free
 free_or_refused header.Unlawful = Err not_free
 free_or_refused header.Other = Err (not_register 1 Mark)
+
+-- a field that holds what no pending call has there
+abbrev pub out_of_range : OutOfRange
+out_of_range = record {}

@@ -8,10 +8,10 @@ use octets::{put, same};
 
 mod fields;
 
-use fields::{CallFields, Fields, is_marked};
+use fields::{CallFields, Fields, OutOfRange, is_marked};
 
 // What a journal header says.
-#[derive(Clone, Copy)]
+#[derive(Clone, Copy, Debug, PartialEq, Eq)]
 pub enum Header {
     Free,
     Unreadable,
@@ -22,7 +22,7 @@ pub enum Header {
 }
 
 // A call that was to be committed.
-#[derive(Clone, Copy)]
+#[derive(Clone, Copy, Debug, PartialEq, Eq)]
 pub struct Pending {
     pub call: PendingCall,
     // the pack's number
@@ -35,7 +35,7 @@ pub struct Pending {
     pub blocks: [u16; 4],
 }
 
-#[derive(Clone, Copy)]
+#[derive(Clone, Copy, Debug, PartialEq, Eq)]
 pub enum PendingCall {
     Store {
         width: u16,
@@ -63,9 +63,7 @@ impl Header {
     {
         match self {
             Header::Free => Ok(()),
-            Header::Unreadable => Err(Fault::NOT_FREE),
-            Header::Pending(_) => Err(Fault::NOT_FREE),
-            Header::Unlawful => Err(Fault::NOT_FREE),
+            Header::Unreadable | Header::Pending(_) | Header::Unlawful => Err(Fault::NOT_FREE),
             Header::Other => Err(Fault::not_register(1, Damage::Mark)),
         }
     }
@@ -81,9 +79,9 @@ fn read_bytes(bytes: &[u8; 512]) -> Header
     if !is_marked(bytes) {
         return Header::Other;
     }
-    match Fields::read(bytes).pending() {
-        Some(pending) => Header::Pending(pending),
-        None => Header::Unlawful,
+    match Pending::try_from(Fields::from(bytes)) {
+        Ok(pending) => Header::Pending(pending),
+        Err(OutOfRange) => Header::Unlawful,
     }
 }
 
@@ -92,27 +90,30 @@ impl Pending {
     pub fn to_bytes(&self) -> [u8; 512]
         ensures { result ≡ pending_bytes self.now }
     {
-        self.fields().to_bytes()
+        Fields::from(*self).to_bytes()
     }
+}
 
-    fn fields(&self) -> Fields
-        ensures { result ≡ fields_for self.now }
-    {
+impl From<Pending> for Fields {
+    ghost from_gives = { λ pending fields. fields ≡ fields_for pending };
+
+    fn from(pending: Pending) -> Fields {
+        let blocks = pending.blocks;
         Fields {
-            call: self.call.fields(),
-            number: self.number,
-            calls: self.calls,
-            words: self.words,
-            blocks: self.blocks,
+            call: CallFields::from(pending.call),
+            number: pending.number,
+            calls: pending.calls,
+            words: pending.words,
+            blocks,
         }
     }
 }
 
-impl PendingCall {
-    fn fields(self) -> CallFields
-        ensures { result ≡ call_fields self }
-    {
-        match self {
+impl From<PendingCall> for CallFields {
+    ghost from_gives = { λ call fields. fields ≡ call_fields call };
+
+    fn from(call: PendingCall) -> CallFields {
+        match call {
             PendingCall::Store { width, draw, used } => CallFields {
                 letter: b'S',
                 width: u32::from(width),

@@ -10,7 +10,7 @@ pub use laws::{headers_are_exact, headers_read_back, images_in_place, runs_as_to
 pub use runs::{commit, replay, write_all};
 
 // A write of bytes to a block.
-#[derive(Clone, Copy)]
+#[derive(Clone, Copy, Debug, PartialEq, Eq)]
 pub struct Write {
     pub block: u16,
     pub bytes: [u8; 512],

@@ -11,10 +11,9 @@ use fault::Fault;
 fn write_one<D: Device>(device: &mut D, write: &Write) -> Result<(), Fault>
     ensures { Runs (write.now ∷ []) (D.Device.meaning device.old) result (D.Device.meaning device.new) }
 {
-    match device.write(write.block, &write.bytes) {
-        Ok(()) => Ok(()),
-        Err(_) => Err(Fault::offline(write.block)),
-    }
+    device
+        .write(write.block, &write.bytes)
+        .map_err(|_| Fault::offline(write.block))
 }
 
 // Does the writes in order, up to the first that is refused.
@@ -27,7 +26,8 @@ pub fn write_all<D: Device>(device: &mut D, writes: &[Write]) -> Result<(), Faul
     Ok(())
 }
 
-// Writes the after-images of the changes: their bytes, from a block on.
+// Writes the after-images of the changes: their bytes, from a block on. The block is counted here, for it
+// stays at 65,535, where a range of blocks would end and leave changes out.
 fn write_images<D: Device>(device: &mut D, first: u16, changes: &[Write]) -> Result<(), Fault>
     ensures { Runs (images_from first changes.now) (D.Device.meaning device.old) result (D.Device.meaning device.new) }
 {
@@ -43,10 +43,7 @@ fn write_images<D: Device>(device: &mut D, first: u16, changes: &[Write]) -> Res
 fn image(change: &Write, block: u16) -> Write
     ensures { result ≡ write_at block change.now.bytes }
 {
-    Write {
-        block,
-        bytes: change.bytes,
-    }
+    Write { block, ..*change }
 }
 
 // The next block, 65,535 at the end.

@@ -1,9 +1,10 @@
 // The fields of a pending header as they stand in its bytes, whatever they hold.
 ghost use Rattle.std.specs.Prelude.{◌≡◌};
-ghost use Rattle.journal.specs.Header.{reserved_zero, marked, fields_of, field_bytes, slot_block, stock_block, lawful_blocks, store_of, take_of, call_of, pending_of};
+ghost use Rattle.std.specs.Option.{ok_or};
+ghost use Rattle.journal.specs.Header.{out_of_range, reserved_zero, marked, fields_of, field_bytes, slot_block, stock_block, lawful_blocks, store_of, take_of, call_of, pending_of};
 
 use super::{Pending, PendingCall};
-use octets::{all_zero, put, same, u16_at, u32_at, u64_at};
+use octets::{all_zero, put, u16_at, u32_at, u64_at};
 
 #[derive(Clone, Copy)]
 pub(crate) struct Fields {
@@ -22,11 +23,15 @@ pub(crate) struct CallFields {
     pub(crate) used: u8,
 }
 
+// A field holds what no pending call has there.
+#[derive(Clone, Copy, Debug, PartialEq, Eq)]
+pub(crate) struct OutOfRange;
+
 // Whether the mark stands, and zeros in every byte that no field has.
 pub(crate) fn is_marked(bytes: &[u8; 512]) -> bool
     ensures { result ≡ marked bytes.now }
 {
-    same(&bytes[0..4], b"JRNL") && is_reserved_zero(bytes)
+    bytes.starts_with(b"JRNL") && is_reserved_zero(bytes)
 }
 
 fn is_reserved_zero(bytes: &[u8; 512]) -> bool
@@ -37,10 +42,10 @@ fn is_reserved_zero(bytes: &[u8; 512]) -> bool
     bytes[5] == 0 && before && behind
 }
 
-impl Fields {
-    pub(crate) fn read(bytes: &[u8; 512]) -> Fields
-        ensures { result ≡ fields_of bytes.now }
-    {
+impl From<&[u8; 512]> for Fields {
+    ghost from_gives = { λ bytes fields. fields ≡ fields_of bytes.now };
+
+    fn from(bytes: &[u8; 512]) -> Fields {
         Fields {
             call: CallFields {
                 letter: bytes[4],
@@ -59,7 +64,9 @@ impl Fields {
             ],
         }
     }
+}
 
+impl Fields {
     pub(crate) fn to_bytes(&self) -> [u8; 512]
         ensures { result ≡ field_bytes self.now }
     {
@@ -79,21 +86,24 @@ impl Fields {
         put(&mut bytes, 46, &fourth.to_le_bytes());
         bytes
     }
+}
 
-    // What is pending, if all fields are in their ranges.
-    pub(crate) fn pending(&self) -> Option<Pending>
-        ensures { result ≡ pending_of self.now }
-    {
-        if self.number >= 32768 || !are_lawful(self.blocks) {
-            return None;
+// What is pending, if all fields are in their ranges.
+impl TryFrom<Fields> for Pending {
+    type Error = OutOfRange;
+
+    ghost try_from_gives = { λ fields result. result ≡ ok_or (pending_of fields) out_of_range };
+
+    fn try_from(fields: Fields) -> Result<Pending, OutOfRange> {
+        if fields.number >= 32_768 || !are_lawful(fields.blocks) {
+            return Err(OutOfRange);
         }
-        let call = self.call.call()?;
-        Some(Pending {
-            call,
-            number: self.number,
-            calls: self.calls,
-            words: self.words,
-            blocks: self.blocks,
+        Ok(Pending {
+            call: PendingCall::try_from(fields.call)?,
+            number: fields.number,
+            calls: fields.calls,
+            words: fields.words,
+            blocks: fields.blocks,
         })
     }
 }
@@ -109,48 +119,52 @@ fn are_lawful(blocks: [u16; 4]) -> bool
 fn is_slot(block: u16) -> bool
     ensures { result ≡ slot_block block }
 {
-    14 <= block && block <= 77
+    (14..=77).contains(&block)
 }
 
 fn is_stock(block: u16) -> bool
     ensures { result ≡ stock_block block }
 {
-    6 <= block && block <= 13
+    (6..=13).contains(&block)
+}
+
+// The call, if its fields are in their ranges.
+impl TryFrom<CallFields> for PendingCall {
+    type Error = OutOfRange;
+
+    ghost try_from_gives = { λ fields result. result ≡ ok_or (call_of fields) out_of_range };
+
+    fn try_from(fields: CallFields) -> Result<PendingCall, OutOfRange> {
+        match fields.letter {
+            b'S' => fields.store(),
+            b'T' => fields.take(),
+            _ => Err(OutOfRange),
+        }
+    }
 }
 
 impl CallFields {
-    // The call, if its fields are in their ranges.
-    fn call(self) -> Option<PendingCall>
-        ensures { result ≡ call_of self }
+    fn store(self) -> Result<PendingCall, OutOfRange>
+        ensures { result ≡ ok_or (store_of self) out_of_range }
     {
-        match self.letter {
-            b'S' => self.store(),
-            b'T' => self.take(),
-            _ => None,
-        }
-    }
-
-    fn store(self) -> Option<PendingCall>
-        ensures { result ≡ store_of self }
-    {
-        if 1 <= self.width && self.width <= 32768 && self.draw < self.width && self.used <= 64 {
-            Some(PendingCall::Store {
+        if (1..=32_768).contains(&self.width) && self.draw < self.width && self.used <= 64 {
+            Ok(PendingCall::Store {
                 width: self.width as u16,
                 draw: self.draw as u16,
                 used: self.used,
             })
         } else {
-            None
+            Err(OutOfRange)
         }
     }
 
-    fn take(self) -> Option<PendingCall>
-        ensures { result ≡ take_of self }
+    fn take(self) -> Result<PendingCall, OutOfRange>
+        ensures { result ≡ ok_or (take_of self) out_of_range }
     {
         if self.width == 0 && self.draw == 0 && self.used == 0 {
-            Some(PendingCall::Take)
+            Ok(PendingCall::Take)
         } else {
-            None
+            Err(OutOfRange)
         }
     }
 }
