@@ -1,15 +1,13 @@
 // Files: read whole, and written so that nothing is lost where that fails.
-use anyhow::anyhow;
+use anyhow::Context;
 use std::fs;
 use std::fs::File;
+use std::io;
 use std::io::{Read, Write};
 
 // The bytes of the file.
 pub(crate) fn read_file(rt: &HostRuntime, path: &str) -> anyhow::Result<Vec<u8>> {
-    match fs::read(rt, path) {
-        Ok(bytes) => Ok(bytes),
-        Err(why) => Err(anyhow!(format!(in rt.alloc(); "cannot read {path}: {why}")?)),
-    }
+    fs::read(rt, path).context(format_args!("cannot read {path}"))
 }
 
 // The bytes of the file, or so many zeros where there is none.
@@ -19,13 +17,7 @@ pub(crate) fn read_or_zeros(
     length: usize,
 ) -> anyhow::Result<Vec<u8>> {
     match fs::exists(rt, path) {
-        Ok(false) => {
-            let mut bytes = Vec::with_capacity(rt.alloc(), length)?;
-            for _ in 0..length {
-                bytes.push(0)?;
-            }
-            Ok(bytes)
-        }
+        Ok(false) => Ok(vec![in rt.alloc(); 0; length]?),
         _ => read_file(rt, path),
     }
 }
@@ -33,28 +25,22 @@ pub(crate) fn read_or_zeros(
 // The bytes of standard input.
 pub(crate) fn read_input(rt: &HostRuntime) -> anyhow::Result<Vec<u8>> {
     let mut bytes = Vec::new(rt.alloc());
-    match rt.stdin().read_to_end(&mut bytes) {
-        Ok(_) => Ok(bytes),
-        Err(why) => Err(anyhow!(format!(in rt.alloc(); "cannot read standard input: {why}")?)),
-    }
+    rt.stdin()
+        .read_to_end(&mut bytes)
+        .context("cannot read standard input")?;
+    Ok(bytes)
 }
 
 // Writes the file anew: to a temporary file beside it, which then takes its name.
 pub(crate) fn save(rt: &HostRuntime, path: &str, bytes: &[u8]) -> anyhow::Result<()> {
     let temporary = format!(in rt.alloc(); "{path}.new")?;
-    match write_synced(rt, temporary.as_str(), bytes) {
-        Ok(()) => {}
-        Err(why) => return Err(anyhow!(format!(in rt.alloc(); "cannot write {temporary}: {why}")?)),
-    }
-    match fs::rename(rt, temporary.as_str(), path) {
-        Ok(()) => Ok(()),
-        Err(why) => Err(anyhow!(format!(in rt.alloc();
-            "cannot rename {temporary} to {path}: {why}"
-        )?)),
-    }
+    write_synced(rt, temporary.as_str(), bytes)
+        .context(format_args!("cannot write {temporary}"))?;
+    fs::rename(rt, temporary.as_str(), path)
+        .context(format_args!("cannot rename {temporary} to {path}"))
 }
 
-fn write_synced(rt: &HostRuntime, path: &str, bytes: &[u8]) -> anyhow::Result<()> {
+fn write_synced(rt: &HostRuntime, path: &str, bytes: &[u8]) -> io::Result<()> {
     let mut file = File::create(rt, path)?;
     file.write_all(bytes)?;
     file.sync_data()?;

@@ -60,11 +60,7 @@ pub(crate) fn report_until(
 }
 
 pub(crate) fn blank_page(heap: Global) -> anyhow::Result<Vec<u8>> {
-    let mut page = Vec::with_capacity(heap, PAGE)?;
-    for _ in 0..PAGE {
-        page.push(0)?;
-    }
-    Ok(page)
+    Ok(vec![in heap; 0; PAGE]?)
 }
 
 // Opens the register and reports it into the page. Where Open finished a call, the image is saved.

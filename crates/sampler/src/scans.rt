@@ -3,7 +3,6 @@ use crate::files::{read_file, read_input};
 use anyhow::anyhow;
 use fault::Fault;
 use intake::{Entry, count_lines, intake};
-use std::alloc::Global;
 use std::io::{BufWriter, Write};
 
 pub(crate) fn intake_file(rt: &HostRuntime, path: &str) -> anyhow::Result<()> {
@@ -18,21 +17,12 @@ pub(crate) fn intake_input(rt: &HostRuntime) -> anyhow::Result<()> {
 
 // The entries of the confirmed lines.
 pub(crate) fn entries(rt: &HostRuntime, input: &[u8]) -> anyhow::Result<Vec<Entry>> {
-    let mut table = empty_table(rt.alloc(), count_lines(input))?;
+    let mut table = vec![in rt.alloc(); Err(Fault::TOO_SHORT); count_lines(input)]?;
     let mut field = [0; 100];
     match intake(input, &mut field, table.as_mut_slice()) {
         Ok(_) => Ok(table),
         Err(fault) => Err(anyhow!(format!(in rt.alloc(); "{fault}")?)),
     }
-}
-
-// A table of as many entries, whatever they are.
-fn empty_table(heap: Global, count: usize) -> anyhow::Result<Vec<Entry>> {
-    let mut table = Vec::with_capacity(heap, count)?;
-    for _ in 0..count {
-        table.push(Err(Fault::TOO_SHORT))?;
-    }
-    Ok(table)
 }
 
 // A line for each entry, and at the end how many there are of each sort.

@@ -1,6 +1,7 @@
 // Windows on a source of words. A call holds its source by value; a draw looks at 64 words at most.
 ghost use Rattle.sampler.specs.Windows.{window_word};
 
+use std::array;
 use words::{Source, Tape};
 
 // The 64 words of a source from a place on.
@@ -13,12 +14,7 @@ pub struct Window {
 impl Window {
     // The words of the tape from a place on.
     pub(crate) fn on(tape: Tape, first: u64) -> Window {
-        let mut words = [None; 64];
-        for i in 0..64u8 {
-            if let Some(place) = first.checked_add(u64::from(i)) {
-                words[usize::from(i)] = tape.word(place);
-            }
-        }
+        let words = array::from_fn(|i| tape.word(first.checked_add(i as u64)?));
         Window { first, words }
     }
 }
