@@ -1,7 +1,7 @@
 // Bytes: zeros, little-endian numbers, and bytes written over others.
 #![tactic(auto)]
 
-ghost use Rattle.std.specs.Prelude.{◌≡◌, ℕ, ◌<◌, drop, slice_index};
+ghost use Rattle.std.specs.Prelude.{◌≡◌, ℕ, ◌<◌, drop, length, slice_index};
 ghost use Rattle.std.specs.Str.{bytes_eq};
 ghost use Rattle.octets.specs.Edits.{placed};
 ghost use Rattle.octets.specs.Numbers.{number_at};
@@ -57,8 +57,9 @@ pub fn u64_at(bytes: &[u8], at: usize) -> u64
 }
 
 // So many bytes from a place on.
-fn array_at<const N: usize>(bytes: &[u8], at: usize) -> [u8; N]
-    ensures { (k : ℕ) → k < N → slice_index result k ≡ slice_index (drop at bytes.now) k }
+pub fn array_at<const N: usize>(bytes: &[u8], at: usize) -> [u8; N]
+    ensures long { length result ≡ N }
+    ensures each { (k : ℕ) → k < N → slice_index result k ≡ slice_index (drop at bytes.now) k }
 {
     let tail = from(bytes, at);
     array::from_fn(|i| byte(tail, i))

@@ -19,4 +19,7 @@ module _ {F : Type 0} (g : Mut F (ℕ × Unit {0}) ℕ) (P : ℕ → ℕ → Typ
 pub returns : goal.returns
 returns g c =
     let items = c.from_fn.ensures.items in
-    λ k h. made _ (λ i y. y ≡ get_or c.from-tail.result.now i 0) _ (λ i y q called. search rules) _ 0 _ items.each k (omega arith) (omega arith) ∙ ap (λ l. get_or l k 0) c.from-tail.ensures
+    record {
+      long = items.long;
+      each = λ k h. made _ (λ i y. y ≡ get_or c.from-tail.result.now i 0) _ (λ i y q called. search rules) _ 0 _ items.each k (omega arith) (omega arith) ∙ ap (λ l. get_or l k 0) c.from-tail.ensures;
+    }
