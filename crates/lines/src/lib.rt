@@ -15,14 +15,14 @@ use fault::Fault;
 use items::Label;
 
 // What a line asks for.
-#[derive(Clone, Copy)]
+#[derive(Clone, Copy, PartialEq, Eq, Debug)]
 pub enum Transaction {
     Store { number: u16, label: Label },
     Take { number: u16 },
 }
 
 // A field of a line, by its kind.
-#[derive(Clone, Copy)]
+#[derive(Clone, Copy, PartialEq, Eq, Debug)]
 enum Field {
     Number,
     Code,
@@ -79,12 +79,10 @@ fn run(field: Field, text: &[u8]) -> usize
     ensures value { result ≡ run field (most field) text.now }
     ensures within { (result ≤ most field) × (result ≤ length text.now) }
 {
-    for (n, byte) in text.iter().enumerate() {
-        if n == field.most() || !field.fits(*byte) {
-            return n;
-        }
-    }
-    text.len()
+    text.iter()
+        .take(field.most())
+        .take_while(|byte| field.fits(**byte))
+        .count()
 }
 
 // The rest of a line, from its byte `at` on. That is far below 256 wherever a field begins, so that a misfit's place fits a byte.
@@ -160,11 +158,9 @@ fn value(digits: &[u8]) -> u32
     requires { Written Number digits.now }
     ensures { result ≡ value digits.now }
 {
-    let mut n = 0;
-    for digit in digits {
-        n = 10 * n + u32::from(*digit - b'0');
-    }
-    n
+    digits
+        .iter()
+        .fold(0, |n, digit| 10 * n + u32::from(*digit - b'0'))
 }
 
 // The pack number that digits write, or refusal 5.

@@ -1,20 +1,16 @@
-use Rattle.std.proofs.Common.{suc, ◌≤◌, ◌∙◌, arith}
-use Rattle.lines.specs.Grammar.{most}
-use Rattle.lines.proofs.Runs.{run_full, run_all, run_stops, run_goes}
+use Rattle.std.proofs.Common.{◌∙◌, rules}
+use borrow.Author.Tests.{tests}
+use Rattle.std.proofs.lemmas.Iterator.{YieldsList-from_slice, YieldsList-from_take}
+use Rattle.std.proofs.lemmas.Iterator.Consumers.{count_from_yields_List}
+use Rattle.std.proofs.lemmas.Iterator.Search.{YieldsList-from_take_while}
+use Rattle.lines.specs.Grammar.{fits, most}
+use Rattle.lines.proofs.Runs.{length_run}
 use Rattle.lines.proofs.run.Goals as goal
-use Rattle.lines.proofs.run.Goals.{then-n-most-via-then-n-most, then-n-most-via-else-n-most+then-not-fits}
 
-pub returns-then-n-most : goal.returns-then-n-most
-returns-then-n-most c =
-    elim c.then-n-most.branch [
-      | then-n-most-via-then-n-most w ↦ record { value = run_full _ _ _ _ _ c.loop-n.invariant.1 (w.if-n-most.true ∙ c.most.ensures); within = omega arith }
-      | then-n-most-via-else-n-most+then-not-fits w ↦ record { value = run_stops _ _ _ _ _ c.loop-n.invariant.1 c.loop-n-test.true w.if-not-fits.ensures; within = omega arith }
-    ]
-
-pub loop-n-preserved : goal.loop-n-preserved
-loop-n-preserved c =
-    let more : suc c.loop-n.n ≤ most c.args.field = omega arith in
-    (omega arith, run_goes _ _ _ _ _ c.loop-n.invariant.1 c.loop-n-test.true more c.if-not-fits.ensures)
-
-pub returns : goal.returns
-returns c = record { value = run_all _ _ _ _ _ c.loop-n.invariant.1 c.loop-n.auto.n-end c.loop-n-test.false; within = omega arith }
+pub returns-clause-value : goal.returns-clause-value
+returns-clause-value c =
+    let f = c.args.field in
+    let s = c.args.text.now in
+    count_from_yields_List _ _ c.count.ensures.ran
+    (YieldsList-from_take_while _ (fits f) (YieldsList-from_take (most f) (YieldsList-from_slice s cc) cc) c.take_while.ensures.closure c.take_while.ensures.done (λ x b q k. search (rules, tests)))
+    ∙ length_run f (most f) s
