@@ -60,7 +60,7 @@ abbrev pub journal_words : JournalCause → List ℕ
 journal_words (journal.NotRegister d) = codes "not a register"
 journal_words journal.NotFree = codes "the journal header is pending or unreadable"
 
-abbrev item_words : ItemCause → List ℕ
+abbrev pub item_words : ItemCause → List ℕ
 item_words Unlawful = codes "the item is unlawful"
 
 abbrev pub intake_words : IntakeCause → List ℕ

@@ -7,16 +7,18 @@ ghost use Rattle.fault.specs.Refusals.{number_of, register_number, place_of, dam
 ghost use Rattle.fault.specs.Refusals.{offline, too_few_blocks, not_register, not_free, number_too_large, in_stock, not_in_stock};
 ghost use Rattle.fault.specs.Refusals.{unlawful, last_call, no_draw, bad_capacity, line_too_long, not_transaction, too_short};
 
+use std::error::Error;
+
 mod shown;
 
 // Why a call was refused.
-#[derive(Clone, Copy)]
+#[derive(Clone, Copy, PartialEq, Eq, Debug)]
 pub struct Fault {
     pub layer: Layer,
 }
 
 // The layer that refused, with the place and the cause that it names.
-#[derive(Clone, Copy)]
+#[derive(Clone, Copy, PartialEq, Eq, Debug)]
 pub enum Layer {
     Device(Place, DeviceCause),
     Journal(Place, JournalCause),
@@ -26,7 +28,7 @@ pub enum Layer {
 }
 
 // Where a refusal points.
-#[derive(Clone, Copy)]
+#[derive(Clone, Copy, PartialEq, Eq, Debug)]
 pub enum Place {
     // no place
     Whole,
@@ -40,20 +42,20 @@ pub enum Place {
     Byte(u8),
 }
 
-#[derive(Clone, Copy)]
+#[derive(Clone, Copy, PartialEq, Eq, Debug)]
 pub enum DeviceCause {
     Offline,
     TooFewBlocks,
 }
 
-#[derive(Clone, Copy)]
+#[derive(Clone, Copy, PartialEq, Eq, Debug)]
 pub enum JournalCause {
     NotRegister(Damage),
     // the journal header is pending or unreadable
     NotFree,
 }
 
-#[derive(Clone, Copy)]
+#[derive(Clone, Copy, PartialEq, Eq, Debug)]
 pub enum RegisterCause {
     NotRegister(Damage),
     NumberTooLarge,
@@ -67,19 +69,19 @@ pub enum RegisterCause {
     TooShort,
 }
 
-#[derive(Clone, Copy)]
+#[derive(Clone, Copy, PartialEq, Eq, Debug)]
 pub enum ItemCause {
     Unlawful,
 }
 
-#[derive(Clone, Copy)]
+#[derive(Clone, Copy, PartialEq, Eq, Debug)]
 pub enum IntakeCause {
     LineTooLong,
     NotTransaction,
 }
 
 // What keeps a block from being a register's.
-#[derive(Clone, Copy)]
+#[derive(Clone, Copy, PartialEq, Eq, Debug)]
 pub enum Damage {
     Unreadable,
     // a wrong mark, or a byte that should be zero
@@ -116,15 +118,12 @@ impl Fault {
         ensures { result ≡ not_register block damage }
     {
         let place = Place::Block(block);
-        if 1 <= block && block <= 5 {
-            Fault {
-                layer: Layer::Journal(place, JournalCause::NotRegister(damage)),
-            }
+        let layer = if (1..=5).contains(&block) {
+            Layer::Journal(place, JournalCause::NotRegister(damage))
         } else {
-            Fault {
-                layer: Layer::Register(place, RegisterCause::NotRegister(damage)),
-            }
-        }
+            Layer::Register(place, RegisterCause::NotRegister(damage))
+        };
+        Fault { layer }
     }
 
     // 4: the journal header is pending or unreadable
@@ -231,11 +230,11 @@ impl Fault {
         ensures { result ≡ place_of self.now }
     {
         match self.layer {
-            Layer::Device(place, _) => place,
-            Layer::Journal(place, _) => place,
-            Layer::Register(place, _) => place,
-            Layer::Item(place, _) => place,
-            Layer::Intake(place, _) => place,
+            Layer::Device(place, _)
+            | Layer::Journal(place, _)
+            | Layer::Register(place, _)
+            | Layer::Item(place, _)
+            | Layer::Intake(place, _) => place,
         }
     }
 
@@ -244,8 +243,8 @@ impl Fault {
         ensures { result ≡ damage_of self.now }
     {
         match self.layer {
-            Layer::Journal(_, JournalCause::NotRegister(damage)) => Some(damage),
-            Layer::Register(_, RegisterCause::NotRegister(damage)) => Some(damage),
+            Layer::Journal(_, JournalCause::NotRegister(damage))
+            | Layer::Register(_, RegisterCause::NotRegister(damage)) => Some(damage),
             _ => None,
         }
     }
@@ -265,6 +264,8 @@ fn register_number(cause: RegisterCause) -> u8
         RegisterCause::TooShort => 14,
     }
 }
+
+impl Error for Fault {}
 
 impl Damage {
     // The number of the cause.

@@ -1,15 +1,15 @@
 -- Texts with the same characters are the same text.
 -- Assumes nothing.
-use Rattle.std.specs.Prelude.{◌≡◌, ℕ, ◌+◌, ◌-◌, ◌<◌, ◌≤◌, List, ◌++◌, length, take, drop, set, slice_index, slice_set}
+use Rattle.std.specs.Prelude.{◌≡◌, ℕ, zero, suc, ◌-◌, ◌<◌, ◌≤◌, List, [], ◌∷◌, ◌++◌, length, take, drop, slice_index, refl}
 use Rattle.std.proofs.Common.{sym, ap, ◌∙◌, zero-add, arith, take-append-drop, length-take-le}
 use mathlib.Core.HLevel.{is_prop→PathP}
 use Rattle.std.proofs.Math.Seq.{take-append_seam, paste}
 use denote.Struct.Props.{props}
-use Rattle.std.proofs.lemmas.List.Edits.{paste_more, paste_all}
-use Rattle.std.proofs.lemmas.List.{drop-replicate, length-replicate}
+use Rattle.std.proofs.lemmas.List.Edits.{paste_all}
+use Rattle.std.proofs.lemmas.List.{drop-replicate, ext_get_or}
 use Rattle.octets.specs.Zeros.{zeros}
 use Rattle.items.specs.Padded.{Padded}
-use Rattle.items.specs.Texts.{chars, padded, text, text_at}
+use Rattle.items.specs.Texts.{chars, padded, padded_is, text, text_at}
 use Rattle.items.specs.declared.text.Text.{Text}
 
 pub chars_length : {n : ℕ} (t : Text n) → length (chars t) ≡ t.len
@@ -19,12 +19,6 @@ pub bytes_are : {n : ℕ} (t : Text n) → t.bytes ≡ padded n (chars t)
 bytes_are {n} t =
     sym (take-append-drop t.len t.bytes)
     ∙ ap (λ z. chars t ++ z) (t.padded.2 ∙ ap (λ k. zeros (n - k)) (sym (chars_length t)))
-
--- a loop that copies the characters over n zeros
-pub copy_more : (n : ℕ) (cs : List ℕ) (i : ℕ) → length cs ≤ n → i < length cs → slice_set (paste (zeros n) 0 cs i) i (slice_index cs i) ≡ paste (zeros n) 0 cs (i + 1)
-copy_more n cs i fits h =
-    ap (λ k. set (paste (zeros n) 0 cs i) k (slice_index cs i)) (sym (zero-add i))
-    ∙ paste_more (zeros n) 0 cs i 0 (simp (length-replicate, zero-add) (omega arith)) h
 
 pub copy_all : (n : ℕ) (cs : List ℕ) (i : ℕ) → i ≡ length cs → paste (zeros n) 0 cs i ≡ padded n cs
 copy_all n cs i e =
@@ -52,3 +46,18 @@ pub made_text : (n : ℕ) (xs : List ℕ) → length xs ≤ n → (bytes : List 
 made_text n xs h bytes e p =
     same_text (record { len = length xs; bytes = bytes; padded = p }) (text n xs)
     (ap (take (length xs)) e ∙ take-append_seam xs (zeros (n - length xs)) ∙ sym (text_at n xs h))
+
+-- the characters, and zeros behind them
+index_zeros : (n i : ℕ) → slice_index (zeros n) i ≡ 0
+index_zeros zero i = refl
+index_zeros (suc n) zero = refl
+index_zeros (suc n) (suc i) = index_zeros n i
+
+index_before_zeros : (xs : List ℕ) (n i : ℕ) → slice_index xs i ≡ slice_index (xs ++ zeros n) i
+index_before_zeros [] n i = sym (index_zeros n i)
+index_before_zeros (x ∷ xs) n zero = refl
+index_before_zeros (x ∷ xs) n (suc i) = index_before_zeros xs n i
+
+pub padded_from : (n : ℕ) (xs bytes : List ℕ) → length xs ≤ n → length bytes ≡ n → ((k : ℕ) → k < n → slice_index bytes k ≡ slice_index xs k) → bytes ≡ padded n xs
+padded_from n xs bytes h long each =
+    ext_get_or 0 bytes (padded n xs) (long ∙ sym (padded_is n xs h).1) (λ i l. each i (omega arith) ∙ index_before_zeros xs (n - length xs) i)

@@ -1,5 +1,8 @@
 ghost use Rattle.std.specs.Prelude.{◌≡◌, ℕ, true, ◌⊎◌, List, length, Some, Option, nat_lt};
 ghost use Rattle.octets.specs.Zeros.{every};
+ghost use Rattle.items.specs.Kinds.{code_of};
+
+use crate::item_kind::ItemKind;
 
 // A kind of item, by its code, the form of each item and the reading of forms.
 pub trait Kind: Copy {
@@ -12,8 +15,14 @@ pub trait Kind: Copy {
     // the item that bytes hold, if they are a form
     ghost reading: { List ℕ → Option Self };
 
-    fn kind_code() -> u8
-        ensures { result ≡ code };
+    fn kind() -> ItemKind
+        ensures { code_of result ≡ code };
+
+    final fn kind_code() -> u8
+        ensures { result ≡ code }
+    {
+        u8::from(Self::kind())
+    }
 
     fn to_form(&self) -> [u8; 60]
         ensures { result ≡ form self.now };

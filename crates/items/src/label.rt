@@ -8,7 +8,7 @@ mod kind;
 mod sections;
 
 // A pack's label: its code, its batch and its expiry, all lawful.
-#[derive(Clone, Copy)]
+#[derive(Clone, Copy, PartialEq, Eq, Debug)]
 pub struct Label {
     code: Text<14>,
     batch: Text<20>,

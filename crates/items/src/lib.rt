@@ -3,6 +3,7 @@
 
 mod examples;
 mod forms;
+mod item_kind;
 mod kind;
 mod label;
 mod rules;
@@ -11,6 +12,7 @@ mod text;
 mod ward_box;
 
 pub use examples::{codes_differ, examples_hold};
+pub use item_kind::{ItemKind, UnknownCode, UnknownWord};
 pub use kind::Kind;
 pub use label::Label;
 pub use text::Text;

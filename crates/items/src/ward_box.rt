@@ -8,7 +8,7 @@ mod kind;
 mod sections;
 
 // A ward's box: the ward, and by how many grams it weighs more than it should, if that is known.
-#[derive(Clone, Copy)]
+#[derive(Clone, Copy, PartialEq, Eq, Debug)]
 pub struct WardBox {
     ward: Text<12>,
     difference: Option<i16>,

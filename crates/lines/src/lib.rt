@@ -15,14 +15,14 @@ use fault::Fault;
 use items::Label;
 
 // What a line asks for.
-#[derive(Clone, Copy)]
+#[derive(Clone, Copy, PartialEq, Eq, Debug)]
 pub enum Transaction {
     Store { number: u16, label: Label },
     Take { number: u16 },
 }
 
 // A field of a line, by its kind.
-#[derive(Clone, Copy)]
+#[derive(Clone, Copy, PartialEq, Eq, Debug)]
 enum Field {
     Number,
     Code,
@@ -72,19 +72,17 @@ impl Field {
             Field::Batch | Field::Expiry => true,
         }
     }
-}
 
-// How many bytes at the front of the text fit the field, up to as many as it has at most.
-fn run(field: Field, text: &[u8]) -> usize
-    ensures value { result ≡ run field (most field) text.now }
-    ensures within { (result ≤ most field) × (result ≤ length text.now) }
-{
-    for (n, byte) in text.iter().enumerate() {
-        if n == field.most() || !field.fits(*byte) {
-            return n;
-        }
+    // How many bytes at the front of the text fit the field, up to as many as it has at most.
+    fn run(self, text: &[u8]) -> usize
+        ensures value { result ≡ run self (most self) text.now }
+        ensures within { (result ≤ most self) × (result ≤ length text.now) }
+    {
+        text.iter()
+            .take(self.most())
+            .take_while(|byte| self.fits(**byte))
+            .count()
     }
-    text.len()
 }
 
 // The rest of a line, from its byte `at` on. That is far below 256 wherever a field begins, so that a misfit's place fits a byte.
@@ -102,56 +100,59 @@ fn misfit(at: usize) -> Fault
     Fault::not_transaction(at as u8)
 }
 
-// Where the field at the front of the rest ends.
-fn front(field: Field, rest: Rest<'_>) -> Result<usize, Fault>
-    requires { rest.at ≤ 100 }
-    ensures value { result ≡ front field rest.entry.at rest.entry.text.now }
-    ensures within { IfOk result (λ n. (n ≤ 20) × (n ≤ length rest.entry.text.now)) }
-{
-    match rest.text {
-        [b'-', ..] if field.optional() => Ok(1),
-        text => {
-            let n = run(field, text);
-            if n < field.least() {
-                Err(misfit(rest.at + n))
-            } else {
-                Ok(n)
+// Each takes `at` within 100: as a ghost field the bound would have to count the fields that were read.
+impl<'a> Rest<'a> {
+    // Where the field at the front ends.
+    fn front(self, field: Field) -> Result<usize, Fault>
+        requires { self.at ≤ 100 }
+        ensures value { result ≡ front field self.entry.at self.entry.text.now }
+        ensures within { IfOk result (λ n. (n ≤ 20) × (n ≤ length self.entry.text.now)) }
+    {
+        match self.text {
+            [b'-', ..] if field.optional() => Ok(1),
+            text => {
+                let n = field.run(text);
+                if n < field.least() {
+                    Err(misfit(self.at + n))
+                } else {
+                    Ok(n)
+                }
             }
         }
     }
-}
 
-// The field at the front of the rest, and the rest behind the space after it.
-fn spaced<'a>(field: Field, rest: Rest<'a>) -> Result<(&'a [u8], Rest<'a>), Fault>
-    requires { rest.at ≤ 100 }
-    ensures value { MatchResult result (λ x. spaced field rest.entry.at rest.entry.text.now ≡ Ok (x.0.now, x.1.at, x.1.text.now)) (λ e. spaced field rest.entry.at rest.entry.text.now ≡ Err e) }
-    ensures within { IfOk result (λ x. x.1.at ≤ rest.entry.at + 21) }
-{
-    let end = front(field, rest)?;
-    let (text, behind) = rest.text.split_at(end);
-    let at = rest.at + end;
-    match behind {
-        [b' ', behind @ ..] => Ok((
-            text,
-            Rest {
-                at: at + 1,
-                text: behind,
-            },
-        )),
-        _ => Err(misfit(at)),
+    // The field at the front, and the rest behind the space after it.
+    fn spaced(self, field: Field) -> Result<(&'a [u8], Rest<'a>), Fault>
+        requires { self.at ≤ 100 }
+        ensures value { MatchResult result (λ x. spaced field self.entry.at self.entry.text.now ≡ Ok (x.0.now, x.1.at, x.1.text.now)) (λ e. spaced field self.entry.at self.entry.text.now ≡ Err e) }
+        ensures within { IfOk result (λ x. x.1.at ≤ self.entry.at + 21) }
+    {
+        let end = self.front(field)?;
+        let (text, behind) = self.text.split_at(end);
+        let at = self.at + end;
+        match behind {
+            [b' ', behind @ ..] => Ok((
+                text,
+                Rest {
+                    at: at + 1,
+                    text: behind,
+                },
+            )),
+            _ => Err(misfit(at)),
+        }
     }
-}
 
-// The field that is all of the rest.
-fn last<'a>(field: Field, rest: Rest<'a>) -> Result<&'a [u8], Fault>
-    requires { rest.at ≤ 100 }
-    ensures { MatchResult result (λ x. last field rest.entry.at rest.entry.text.now ≡ Ok x.now) (λ e. last field rest.entry.at rest.entry.text.now ≡ Err e) }
-{
-    let end = front(field, rest)?;
-    if end == rest.text.len() {
-        Ok(rest.text)
-    } else {
-        Err(misfit(rest.at + end))
+    // The field that is all of the rest.
+    fn last(self, field: Field) -> Result<&'a [u8], Fault>
+        requires { self.at ≤ 100 }
+        ensures { MatchResult result (λ x. last field self.entry.at self.entry.text.now ≡ Ok x.now) (λ e. last field self.entry.at self.entry.text.now ≡ Err e) }
+    {
+        let end = self.front(field)?;
+        if end == self.text.len() {
+            Ok(self.text)
+        } else {
+            Err(misfit(self.at + end))
+        }
     }
 }
 
@@ -160,11 +161,9 @@ fn value(digits: &[u8]) -> u32
     requires { Written Number digits.now }
     ensures { result ≡ value digits.now }
 {
-    let mut n = 0;
-    for digit in digits {
-        n = 10 * n + u32::from(*digit - b'0');
-    }
-    n
+    digits
+        .iter()
+        .fold(0, |n, digit| 10 * n + u32::from(*digit - b'0'))
 }
 
 // The pack number that digits write, or refusal 5.
@@ -194,10 +193,10 @@ fn present(field: &[u8]) -> &[u8]
 fn store(text: &[u8]) -> Result<Transaction, Fault>
     ensures { result ≡ stored text.now }
 {
-    let (number, rest) = spaced(Field::Number, Rest { at: 2, text })?;
-    let (code, rest) = spaced(Field::Code, rest)?;
-    let (batch, rest) = spaced(Field::Batch, rest)?;
-    let expiry = last(Field::Expiry, rest)?;
+    let (number, rest) = Rest { at: 2, text }.spaced(Field::Number)?;
+    let (code, rest) = rest.spaced(Field::Code)?;
+    let (batch, rest) = rest.spaced(Field::Batch)?;
+    let expiry = rest.last(Field::Expiry)?;
     let number = pack_number(number)?;
     let label = Label::new(code, present(batch), present(expiry))?;
     Ok(Transaction::Store { number, label })
@@ -207,7 +206,7 @@ fn store(text: &[u8]) -> Result<Transaction, Fault>
 fn take(text: &[u8]) -> Result<Transaction, Fault>
     ensures { result ≡ taken text.now }
 {
-    let number = last(Field::Number, Rest { at: 2, text })?;
+    let number = Rest { at: 2, text }.last(Field::Number)?;
     let number = pack_number(number)?;
     Ok(Transaction::Take { number })
 }

@@ -1,9 +1,10 @@
 ghost use Rattle.items.specs.Forms.{label_form, label_reading};
-ghost use Rattle.items.specs.LabelForm.{label_sized, label_round, label_exact};
+ghost use Rattle.items.specs.LabelFormLaws.{label_sized, label_round, label_exact};
 ghost use Rattle.items.specs.FormBytes.{label_bounded};
 ghost use Rattle.std.proofs.Common.{inl, refl};
 
 use crate::forms::{put_section, section};
+use crate::item_kind::ItemKind;
 use crate::kind::Kind;
 use crate::label::Label;
 use octets::all_zero;
@@ -26,8 +27,8 @@ impl Kind for Label {
 
     ghost exact = { label_exact };
 
-    fn kind_code() -> u8 {
-        1
+    fn kind() -> ItemKind {
+        ItemKind::Label
     }
 
     fn to_form(&self) -> [u8; 60] {

@@ -22,12 +22,7 @@ impl Alphabet {
     pub(crate) fn has_all(self, section: &[u8]) -> bool
         ensures { result ≡ every (letter self) section.now }
     {
-        for byte in section {
-            if !self.has(*byte) {
-                return false;
-            }
-        }
-        true
+        section.iter().all(|byte| self.has(*byte))
     }
 }
 
@@ -63,7 +58,7 @@ fn month_length(year: u16, month: u16) -> u16
 fn is_day(year: u16, month: u16, day: u16) -> bool
     ensures { result ≡ is_day year month day }
 {
-    1 <= month && month <= 12 && 1 <= day && day <= month_length(year, month)
+    (1..=12).contains(&month) && (1..=month_length(year, month)).contains(&day)
 }
 
 // The number of two digits.
@@ -108,5 +103,5 @@ pub(crate) fn is_expiry(expiry: &[u8]) -> bool
 pub(crate) fn is_ward(ward: &[u8]) -> bool
     ensures { result ≡ lawful_ward ward.now }
 {
-    1 <= ward.len() && ward.len() <= 12 && Alphabet::UpperAlphanumeric.has_all(ward)
+    (1..=12).contains(&ward.len()) && Alphabet::UpperAlphanumeric.has_all(ward)
 }

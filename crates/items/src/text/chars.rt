@@ -1,15 +1,15 @@
 ghost use Rattle.std.specs.Prelude.{◌≡◌, ◌≤◌, length};
-ghost use Rattle.items.specs.Texts.{chars, padded, text, text_of};
+ghost use Rattle.items.specs.Texts.{chars, text, text_of};
 
 use crate::text::Text;
+use octets::array_at;
 
 impl<const N: usize> Text<N> {
     // The characters.
     pub fn as_bytes(&self) -> &[u8]
         ensures { result.now ≡ chars self.now }
     {
-        let all = &self.bytes[..];
-        &all[0..self.len]
+        &self.bytes[..self.len]
     }
 
     // The text of characters that are few enough.
@@ -18,7 +18,7 @@ impl<const N: usize> Text<N> {
         ensures { result ≡ text N characters.now }
     {
         let len = characters.len();
-        let bytes = array(characters);
+        let bytes = array_at(characters, 0);
         Text { len, bytes }
     }
 
@@ -31,16 +31,4 @@ impl<const N: usize> Text<N> {
         }
         Some(Text::short(characters))
     }
-}
-
-// The characters and then zeros.
-fn array<const N: usize>(characters: &[u8]) -> [u8; N]
-    requires { length characters.now ≤ N }
-    ensures { result ≡ padded N characters.now }
-{
-    let mut bytes = [0; N];
-    for (i, character) in characters.iter().enumerate() {
-        bytes[i] = *character;
-    }
-    bytes
 }

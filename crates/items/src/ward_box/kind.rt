@@ -1,11 +1,12 @@
 ghost use Rattle.std.specs.Prelude.{◌≡◌, ◌+◌, ◌≤◌, length};
 ghost use Rattle.std.proofs.Math.Seq.{paste};
 ghost use Rattle.items.specs.BoxForms.{box_form, box_reading, difference_form, ended, with_difference, after_ward};
-ghost use Rattle.items.specs.BoxForm.{box_sized, box_round, box_exact};
+ghost use Rattle.items.specs.BoxFormLaws.{box_sized, box_round, box_exact};
 ghost use Rattle.items.specs.FormBytes.{box_bounded};
 ghost use Rattle.std.proofs.Common.{inr, refl};
 
 use crate::forms::{put, put_section, section};
+use crate::item_kind::ItemKind;
 use crate::kind::Kind;
 use crate::ward_box::WardBox;
 use octets::all_zero;
@@ -28,8 +29,8 @@ impl Kind for WardBox {
 
     ghost exact = { box_exact };
 
-    fn kind_code() -> u8 {
-        2
+    fn kind() -> ItemKind {
+        ItemKind::WardBox
     }
 
     fn to_form(&self) -> [u8; 60] {

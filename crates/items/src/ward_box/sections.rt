@@ -11,10 +11,7 @@ use fault::Fault;
 fn is_difference(difference: Option<i16>) -> bool
     ensures { result ≡ lawful_difference difference }
 {
-    match difference {
-        None => true,
-        Some(grams) => -30000 <= grams && grams <= 30000,
-    }
+    difference.is_none_or(|grams| (-30000..=30000).contains(&grams))
 }
 
 impl WardBox {

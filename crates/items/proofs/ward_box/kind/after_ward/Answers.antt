@@ -1,5 +1,5 @@
 use Rattle.std.proofs.Common.{◌-◌, ◌<◌, length, take, drop, ◌∙◌, arith, length-drop, take_all, ltb-false}
-use Rattle.items.specs.BoxForm.{after_zero, after_one}
+use Rattle.items.specs.BoxFormLaws.{after_zero, after_one}
 use Rattle.items.proofs.ward_box.kind.after_ward.Goals as goal
 
 pub returns-in-1 : goal.returns-in-1

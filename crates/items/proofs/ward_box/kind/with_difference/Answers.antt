@@ -1,5 +1,5 @@
 use Rattle.std.proofs.Common.{◌-◌, ◌≤◌, length, get_or, take, drop, ◌∙◌, arith, length-drop, take_all, ltb-false}
-use Rattle.items.specs.BoxForm.{difference_read}
+use Rattle.items.specs.BoxFormLaws.{difference_read}
 use Rattle.items.proofs.ward_box.kind.with_difference.Goals as goal
 
 pub returns : goal.returns

@@ -4,7 +4,7 @@ use Rattle.std.proofs.lemmas.Bool.{and_left, and_right}
 use Rattle.octets.specs.Zeros.{every, blank}
 use Rattle.items.specs.Forms.{front, behind}
 use Rattle.items.specs.Labels.{label}
-use Rattle.items.specs.LabelForm.{reading_none, reading_some}
+use Rattle.items.specs.LabelFormLaws.{reading_none, reading_some}
 use Rattle.items.proofs.label.kind.LabelKind.from_form.Goals as goal
 use Rattle.items.proofs.label.kind.LabelKind.from_form.Goals.{then-bytes-ne60-via-then-bytes-ne60, then-bytes-ne60-via-else-bytes-ne60+then-not-all_zero}
 

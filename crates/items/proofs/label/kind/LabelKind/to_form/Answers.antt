@@ -1,7 +1,7 @@
 use Rattle.std.proofs.Common.{ap}
 use Rattle.items.specs.Forms.{counted}
 use Rattle.octets.specs.Zeros.{zeros}
-use Rattle.items.specs.LabelForm.{form_written}
+use Rattle.items.specs.LabelFormLaws.{form_written}
 use Rattle.items.specs.Parts.{written_none, written_more}
 use Rattle.items.proofs.label.kind.LabelKind.to_form.Goals as goal
 

@@ -1,6 +1,6 @@
 use Rattle.std.proofs.Common.{sym, ◌∙◌}
 use Rattle.items.specs.BoxForms.{after_ward}
-use Rattle.items.specs.BoxForm.{reading_none, reading_some}
+use Rattle.items.specs.BoxFormLaws.{reading_none, reading_some}
 use Rattle.items.proofs.ward_box.kind.WardBoxKind.from_form.Goals as goal
 
 pub returns-then-bytes-ne60 : goal.returns-then-bytes-ne60

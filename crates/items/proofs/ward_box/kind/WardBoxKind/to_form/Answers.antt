@@ -1,7 +1,7 @@
 use Rattle.std.proofs.Common.{refl, ap}
 use Rattle.items.specs.Forms.{counted}
 use Rattle.octets.specs.Zeros.{zeros}
-use Rattle.items.specs.BoxForm.{form_written}
+use Rattle.items.specs.BoxFormLaws.{form_written}
 use Rattle.items.specs.Parts.{written_none, written_more}
 use Rattle.items.proofs.ward_box.kind.WardBoxKind.to_form.Goals as goal
 

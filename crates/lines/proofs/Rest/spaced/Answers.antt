@@ -1,7 +1,7 @@
 use Rattle.std.proofs.Common.{◌≡◌, ◌<◌, length, get_or, Err, sym, ap, ◌∙◌, arith, ltb-false, ltb-true}
 use Rattle.lines.proofs.Splits.{spaced_ok, spaced_misfit}
-use Rattle.lines.proofs.spaced.Goals as goal
-use Rattle.lines.proofs.spaced.Goals.{in_default-via-then-behind-lt1, in_default-via-else-behind-lt1+in_default-1}
+use Rattle.lines.proofs.Rest.spaced.Goals as goal
+use Rattle.lines.proofs.Rest.spaced.Goals.{in_default-via-then-behind-lt1, in_default-via-else-behind-lt1+in_default-1}
 
 pub returns-in-32 : goal.returns-in-32
 returns-in-32 c =
