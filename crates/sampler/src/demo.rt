@@ -3,7 +3,6 @@ use crate::replies::{call_of, number_of, print_reply};
 use crate::reports::{blank_page, expiring, print_sample};
 use crate::scans::entries;
 use crate::windows::Window;
-use anyhow::anyhow;
 use device::{Entry, Failing, Remains};
 use fault::Fault;
 use items::{Label, WardBox};
@@ -67,16 +66,14 @@ fn scan_until_failure<W: Write>(
         out,
         "capacity 2; after {GOOD_WRITES} writes the power fails"
     )?;
-    match run(
+    run(
         &mut failing,
         2,
         calls.as_slice(),
         &mut [],
         replies.as_mut_slice(),
-    ) {
-        Ok(()) => print_replies(out, table.as_slice(), replies.as_slice()),
-        Err(fault) => Err(anyhow!(format!(in rt.alloc(); "{fault}")?)),
-    }
+    )?;
+    print_replies(out, table.as_slice(), replies.as_slice())
 }
 
 // A line for each transaction, with its answer.
@@ -85,16 +82,14 @@ fn print_replies<W: Write>(
     table: &[intake::Entry],
     replies: &[Reply],
 ) -> anyhow::Result<()> {
-    let mut answers = replies.iter();
-    let mut line = 0u16;
-    for entry in table {
-        line = line.saturating_add(1);
-        if let Ok(transaction) = *entry {
-            if let Some(reply) = answers.next() {
-                write!(out, "{line}: ")?;
-                print_reply(out, number_of(transaction), *reply)?;
-            }
-        }
+    let transactions = table
+        .iter()
+        .enumerate()
+        .filter_map(|(i, entry)| entry.ok().map(|transaction| (i, transaction)));
+    for ((i, transaction), reply) in transactions.zip(replies) {
+        let line = i + 1;
+        write!(out, "{line}: ")?;
+        print_reply(out, number_of(transaction), *reply)?;
     }
     Ok(())
 }
@@ -109,10 +104,8 @@ fn open_and_report<W: Write>(
     let mut sound = device(blocks, 1000);
     let calls: [Call<Label, WardBox, Window>; 1] = [Call::Own(Request::Report)];
     let mut replies = [Err(Fault::TOO_SHORT)];
-    match resume(&mut sound, &calls, page.as_mut_slice(), &mut replies) {
-        Ok(opened) => print_finished(out, opened.finished)?,
-        Err(fault) => return Err(anyhow!(format!(in rt.alloc(); "{fault}")?)),
-    }
+    let opened = resume(&mut sound, &calls, page.as_mut_slice(), &mut replies)?;
+    print_finished(out, opened.finished)?;
     if let Ok(Answer::Reported(counts)) = replies[0] {
         print_sample::<Label, W>(out, counts, page.as_slice())?;
         let early = expiring(page.as_slice(), counts.sampled, b"270101");

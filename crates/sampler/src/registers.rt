@@ -3,11 +3,11 @@ use crate::files::{read_file, read_or_zeros, save};
 use crate::replies::{call_of, number_of, print_reply};
 use crate::scans::entries;
 use crate::windows::Window;
-use anyhow::anyhow;
+use anyhow::{Context, anyhow};
 use device::Image;
 use fault::Fault;
 use intake::Entry;
-use items::{Label, WardBox};
+use items::{ItemKind, Label, WardBox};
 use lines::Transaction;
 use register::{Side, SideFault, same};
 use session::{Reply, resume};
@@ -18,23 +18,12 @@ use words::Tape;
 // The bytes of a new image: 78 blocks.
 const IMAGE_BYTES: usize = 78 * 512;
 
-// A kind of item, by its name.
-#[derive(Clone, Copy)]
-pub(crate) enum KindName {
-    Label,
-    WardBox,
-}
-
-pub(crate) fn kind_named(rt: &HostRuntime, name: &str) -> anyhow::Result<KindName> {
-    match name {
-        "label" => Ok(KindName::Label),
-        "box" => Ok(KindName::WardBox),
-        _ => Err(anyhow!(format!(in rt.alloc(); "{name} is no kind of item: label or box")?)),
+// The kind of item with this name.
+pub(crate) fn kind_named(rt: &HostRuntime, name: &str) -> anyhow::Result<ItemKind> {
+    match name.parse() {
+        Ok(kind) => Ok(kind),
+        Err(why) => Err(anyhow!(format!(in rt.alloc(); "{name} is {why}")?)),
     }
-}
-
-pub(crate) fn refused(rt: &HostRuntime, path: &str, fault: &Fault) -> anyhow::Result<()> {
-    Err(anyhow!(format!(in rt.alloc(); "{path}: {fault}")?))
 }
 
 // Makes a register in the image, which is made too where there is none.
@@ -45,19 +34,18 @@ pub(crate) fn make_image(
     kind: &str,
 ) -> anyhow::Result<()> {
     let kind = kind_named(rt, kind)?;
-    let Ok(capacity) = capacity.parse::<u16>() else {
-        return refused(rt, path, &Fault::BAD_CAPACITY);
-    };
+    let capacity = capacity
+        .parse::<u16>()
+        .map_err(|_| Fault::BAD_CAPACITY)
+        .context(path)?;
     let mut bytes = read_or_zeros(rt, path, IMAGE_BYTES)?;
     let mut image = Image::new(bytes.as_mut_slice());
     let made = match kind {
-        KindName::Label => make::<Label, Image>(&mut image, capacity),
-        KindName::WardBox => make::<WardBox, Image>(&mut image, capacity),
+        ItemKind::Label => make::<Label, Image>(&mut image, capacity),
+        ItemKind::WardBox => make::<WardBox, Image>(&mut image, capacity),
     };
-    match made {
-        Ok(()) => save(rt, path, bytes.as_slice()),
-        Err(fault) => refused(rt, path, &fault),
-    }
+    made.context(path)?;
+    save(rt, path, bytes.as_slice())
 }
 
 // Says whether two registers have the same packs in stock and in their samples.
@@ -73,18 +61,18 @@ pub(crate) fn compare(rt: &HostRuntime, left: &str, right: &str, kind: &str) -> 
                 Side::Left => left,
                 Side::Right => right,
             };
-            return refused(rt, path, &refusal.fault);
+            return Err(refusal.fault).context(path);
         }
     }
     Ok(())
 }
 
-fn same_images(kind: KindName, left: &mut [u8], right: &mut [u8]) -> Result<bool, SideFault> {
+fn same_images(kind: ItemKind, left: &mut [u8], right: &mut [u8]) -> Result<bool, SideFault> {
     let left = Image::new(left);
     let right = Image::new(right);
     match kind {
-        KindName::Label => same::<Label, Image, Image>(&left, &right),
-        KindName::WardBox => same::<WardBox, Image, Image>(&left, &right),
+        ItemKind::Label => same::<Label, Image, Image>(&left, &right),
+        ItemKind::WardBox => same::<WardBox, Image, Image>(&left, &right),
     }
 }
 
@@ -103,9 +91,7 @@ pub(crate) fn scan_file(
         bytes: tape.as_slice(),
     };
     let mut image = Image::new(bytes.as_mut_slice());
-    if let Err(fault) = open::<Label, Image>(&mut image) {
-        return refused(rt, path, &fault);
-    }
+    open::<Label, Image>(&mut image).context(path)?;
     let mut replies = Vec::with_capacity(rt.alloc(), table.len())?;
     for entry in table.as_slice() {
         replies.push(do_entry(&mut image, tape, *entry))?;

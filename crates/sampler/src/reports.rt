@@ -1,11 +1,11 @@
 // Reports: the counters of a register, and what its sample holds.
 use crate::files::{read_file, save};
-use crate::registers::{KindName, kind_named};
+use crate::registers::kind_named;
 use crate::windows::Window;
-use anyhow::anyhow;
+use anyhow::{Context, anyhow};
 use device::Image;
 use fault::Fault;
-use items::{Kind, Label, WardBox};
+use items::{ItemKind, Kind, Label, WardBox};
 use pairing::Counts;
 use session::{Answer, Call, Request, resume};
 use std::alloc::Global;
@@ -22,11 +22,11 @@ pub(crate) fn report(rt: &HostRuntime, path: &str, kind: &str) -> anyhow::Result
     let mut page = blank_page(rt.alloc())?;
     let mut out = BufWriter::new(rt.alloc(), rt.stdout())?;
     match kind_named(rt, kind)? {
-        KindName::Label => {
+        ItemKind::Label => {
             let counts = report_into::<Label, WardBox>(rt, path, page.as_mut_slice())?;
             print_sample::<Label, _>(&mut out, counts, page.as_slice())?;
         }
-        KindName::WardBox => {
+        ItemKind::WardBox => {
             let counts = report_into::<WardBox, Label>(rt, path, page.as_mut_slice())?;
             print_sample::<WardBox, _>(&mut out, counts, page.as_slice())?;
         }
@@ -42,7 +42,7 @@ pub(crate) fn report_until(
     kind: &str,
     day: &str,
 ) -> anyhow::Result<()> {
-    if !matches!(kind_named(rt, kind)?, KindName::Label) {
+    if kind_named(rt, kind)? != ItemKind::Label {
         return Err(anyhow!("only labels expire"));
     }
     if day.is_empty() || Label::new(b"12345670", b"", day.as_bytes()).is_err() {
@@ -74,17 +74,13 @@ fn report_into<K: Kind, J: Kind>(
     let mut calls: Vec<Call<K, J, Window>> = Vec::with_capacity(rt.alloc(), 1)?;
     calls.push(Call::Own(Request::Report))?;
     let mut replies = [Err(Fault::TOO_SHORT)];
-    let opened = match resume(&mut image, calls.as_slice(), page, &mut replies) {
-        Ok(opened) => opened,
-        Err(fault) => return Err(anyhow!(format!(in rt.alloc(); "{path}: {fault}")?)),
-    };
+    let opened = resume(&mut image, calls.as_slice(), page, &mut replies).context(path)?;
     if opened.finished.is_some() {
         save(rt, path, bytes.as_slice())?;
     }
-    match replies[0] {
-        Ok(Answer::Reported(counts)) => Ok(counts),
-        Ok(_) => Err(anyhow!("no report")),
-        Err(fault) => Err(anyhow!(format!(in rt.alloc(); "{path}: {fault}")?)),
+    match replies[0].context(path)? {
+        Answer::Reported(counts) => Ok(counts),
+        _ => Err(anyhow!("no report")),
     }
 }
 

@@ -1,6 +1,5 @@
 // What the confirmed lines of a scan say.
 use crate::files::{read_file, read_input};
-use anyhow::anyhow;
 use fault::Fault;
 use intake::{Entry, count_lines, intake};
 use std::io::{BufWriter, Write};
@@ -19,10 +18,8 @@ pub(crate) fn intake_input(rt: &HostRuntime) -> anyhow::Result<()> {
 pub(crate) fn entries(rt: &HostRuntime, input: &[u8]) -> anyhow::Result<Vec<Entry>> {
     let mut table = vec![in rt.alloc(); Err(Fault::TOO_SHORT); count_lines(input)]?;
     let mut field = [0; 100];
-    match intake(input, &mut field, table.as_mut_slice()) {
-        Ok(_) => Ok(table),
-        Err(fault) => Err(anyhow!(format!(in rt.alloc(); "{fault}")?)),
-    }
+    intake(input, &mut field, table.as_mut_slice())?;
+    Ok(table)
 }
 
 // A line for each entry, and at the end how many there are of each sort.
