@@ -56,11 +56,9 @@ pub(crate) fn section(bytes: &[u8]) -> (&[u8], &[u8])
     ensures first { result.0.now ≡ front bytes.now }
     ensures rest { result.1.now ≡ behind bytes.now }
 {
-    match bytes {
-        [] => (bytes, bytes),
-        [count, rest @ ..] => {
-            let count = usize::from(*count).min(rest.len());
-            rest.split_at(count)
-        }
-    }
+    let Some((count, rest)) = bytes.split_first() else {
+        return (bytes, bytes);
+    };
+    rest.split_at_checked(usize::from(*count))
+        .unwrap_or((rest, &[]))
 }

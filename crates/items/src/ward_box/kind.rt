@@ -68,9 +68,7 @@ fn put_difference(form: &mut Form, difference: Option<i16>)
 fn after_ward(ward: &[u8], rest: &[u8]) -> Option<WardBox>
     ensures { result ≡ after_ward ward.now rest.now }
 {
-    let [count, rest @ ..] = rest else {
-        return None;
-    };
+    let (count, rest) = rest.split_first()?;
     match *count {
         0 => end(ward, None, rest),
         1 => with_difference(ward, rest),
