@@ -48,17 +48,6 @@ pub box_sized : (x : WardBox) → length (box_form x) ≡ 60
 unfolding box_form
 box_sized x = let n = fits x in length_padded 60 (counted (chars x.ward) ++ difference_form x.difference) (omega arith)
 
--- the second section by its count, where t is what stands behind that
-pub after_zero : (w r t : List ℕ) → 0 < length r → slice_index r 0 ≡ 0 → t ≡ drop 1 r → ended w None t ≡ after_ward w r
-after_zero w [] t h z e = absurd (omega arith)
-after_zero w (n ∷ r) t h z e = ap (ended w None) e ∙ sym (cond-true _ _ _ (eq-eqb n 0 z))
-
-pub after_one : (w r t : List ℕ) → 0 < length r → slice_index r 0 ≡ 1 → t ≡ drop 1 r → with_difference w t ≡ after_ward w r
-after_one w [] t h z e = absurd (omega arith)
-after_one w (n ∷ r) t h z e =
-    let other : n ≡ 0 → ⊥ = λ o. omega arith in
-    ap (with_difference w) e ∙ sym (cond-true _ _ _ (eq-eqb n 1 z)) ∙ sym (cond-false _ _ _ (ne_eqb n 0 other))
-
 -- two bytes hold a number of 16 bits
 pub bits_fit : (a b : ℕ) → a ≤ 255 → b ≤ 255 → Fits w16 (a + b * 256)
 bits_fit a b h k = record { fits = omega arith }

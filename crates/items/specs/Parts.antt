@@ -18,8 +18,8 @@ pub record Written (d f xs : List ℕ) (at : ℕ) : Type 0 where
   pub bytes : f ≡ paste d 0 xs (length xs)
   pub next : at ≡ length xs
 
-pub written_none : (d : List ℕ) → Written d d [] 0
-written_none d = record { bytes = paste_none d 0 []; next = refl }
+pub written_none : {d f : List ℕ} {at : ℕ} → f ≡ d → at ≡ 0 → Written d f [] at
+written_none {d} is start = record { bytes = is ∙ paste_none d 0 []; next = start }
 
 -- one section more behind those that are written
 pub written_more : {d f f' xs ys zs : List ℕ} {at at' : ℕ} → Written d f xs at → ys ≡ zs → f' ≡ paste f at ys (length ys) → at' ≡ at + length ys → Written d f' (xs ++ zs) at'

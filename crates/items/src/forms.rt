@@ -1,27 +1,54 @@
 // The parts of a form: sections after their count bytes.
-ghost use Rattle.std.specs.Prelude.{◌≡◌, ◌+◌, ◌<◌, ◌≤◌, length};
+ghost use Rattle.std.specs.Prelude.{◌≡◌, ◌+◌, ◌≤◌, length};
 ghost use Rattle.std.proofs.Math.Seq.{paste};
+ghost use Rattle.octets.specs.Zeros.{zeros};
 ghost use Rattle.items.specs.Forms.{counted, front, behind};
 
-// Writes the bytes, and answers the place behind them.
-pub(crate) fn put(form: &mut [u8], at: usize, bytes: &[u8]) -> usize
-    requires { at + length bytes.now ≤ length form.old }
-    ensures next { result ≡ at + length bytes.now }
-    ensures after { form.new ≡ paste form.old at bytes.now (length bytes.now) }
-{
-    octets::put(form, at, bytes);
-    at + bytes.len()
+// A form in the making: its bytes, and the place behind those that are written.
+#[derive(Clone, Copy)]
+pub(crate) struct Form {
+    bytes: [u8; 60],
+    at: usize,
 }
 
-// Writes the section after its count byte, and answers the place behind it.
-pub(crate) fn put_section(form: &mut [u8], at: usize, section: &[u8]) -> usize
-    requires { (at + (1 + length section.now) ≤ length form.old) × (length section.now < 256) }
-    ensures next { result ≡ at + length (counted section.now) }
-    ensures after { form.new ≡ paste form.old at (counted section.now) (length (counted section.now)) }
-{
-    let count = [section.len() as u8];
-    let start = put(form, at, &count);
-    put(form, start, section)
+impl Form {
+    // All zeros, none of them written.
+    pub(crate) fn new() -> Form
+        ensures bytes { result.bytes ≡ zeros 60 }
+        ensures at { result.at ≡ 0 }
+    {
+        Form {
+            bytes: [0; 60],
+            at: 0,
+        }
+    }
+
+    // Writes the bytes behind what is written.
+    pub(crate) fn put(&mut self, bytes: &[u8])
+        requires { self.old.at + length bytes.now ≤ 60 }
+        ensures next { self.new.at ≡ self.old.at + length bytes.now }
+        ensures after { self.new.bytes ≡ paste self.old.bytes self.old.at bytes.now (length bytes.now) }
+    {
+        octets::put(&mut self.bytes, self.at, bytes);
+        self.at += bytes.len();
+    }
+
+    // Writes the section after its count byte.
+    pub(crate) fn put_section(&mut self, section: &[u8])
+        requires { self.old.at + (1 + length section.now) ≤ 60 }
+        ensures next { self.new.at ≡ self.old.at + length (counted section.now) }
+        ensures after { self.new.bytes ≡ paste self.old.bytes self.old.at (counted section.now) (length (counted section.now)) }
+    {
+        self.put(&[section.len() as u8]);
+        self.put(section);
+    }
+
+    // The form as it stands.
+    pub(crate) fn bytes(self) -> [u8; 60]
+        ensures { result ≡ self.bytes }
+    {
+        self.bytes
+    }
 }
 
 // The first section, and what stands behind it.
@@ -29,11 +56,9 @@ pub(crate) fn section(bytes: &[u8]) -> (&[u8], &[u8])
     ensures first { result.0.now ≡ front bytes.now }
     ensures rest { result.1.now ≡ behind bytes.now }
 {
-    match bytes {
-        [] => (bytes, bytes),
-        [count, rest @ ..] => {
-            let count = usize::from(*count).min(rest.len());
-            rest.split_at(count)
-        }
-    }
+    let Some((count, rest)) = bytes.split_first() else {
+        return (bytes, bytes);
+    };
+    rest.split_at_checked(usize::from(*count))
+        .unwrap_or((rest, &[]))
 }

@@ -69,7 +69,7 @@ pub fn array_at<const N: usize>(bytes: &[u8], at: usize) -> [u8; N]
 fn from(bytes: &[u8], at: usize) -> &[u8]
     ensures { result.now ≡ drop at bytes.now }
 {
-    &bytes[at.min(bytes.len())..]
+    bytes.get(at..).unwrap_or(&[])
 }
 
 // The byte at a place.

@@ -3,7 +3,7 @@ ghost use Rattle.items.specs.LabelFormLaws.{label_sized, label_round, label_exac
 ghost use Rattle.items.specs.FormBytes.{label_bounded};
 ghost use Rattle.std.proofs.Common.{inl, refl};
 
-use crate::forms::{put_section, section};
+use crate::forms::{Form, section};
 use crate::item_kind::ItemKind;
 use crate::kind::Kind;
 use crate::label::Label;
@@ -32,11 +32,11 @@ impl Kind for Label {
     }
 
     fn to_form(&self) -> [u8; 60] {
-        let mut form = [0; 60];
-        let batch = put_section(&mut form, 0, self.code());
-        let expiry = put_section(&mut form, batch, self.batch());
-        put_section(&mut form, expiry, self.expiry());
-        form
+        let mut form = Form::new();
+        form.put_section(self.code());
+        form.put_section(self.batch());
+        form.put_section(self.expiry());
+        form.bytes()
     }
 
     fn from_form(bytes: &[u8]) -> Option<Label> {

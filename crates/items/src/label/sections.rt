@@ -9,6 +9,7 @@ use fault::Fault;
 
 impl Label {
     // The label with these sections, or the first of them that is unlawful.
+    #[tactic(auto, unfolding(crate::specs::Labels::label))]
     pub fn new(code: &[u8], batch: &[u8], expiry: &[u8]) -> Result<Label, Fault>
         ensures { result ≡ label code.now batch.now expiry.now }
     {

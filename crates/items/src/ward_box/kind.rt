@@ -5,7 +5,7 @@ ghost use Rattle.items.specs.BoxFormLaws.{box_sized, box_round, box_exact};
 ghost use Rattle.items.specs.FormBytes.{box_bounded};
 ghost use Rattle.std.proofs.Common.{inr, refl};
 
-use crate::forms::{put, put_section, section};
+use crate::forms::{Form, section};
 use crate::item_kind::ItemKind;
 use crate::kind::Kind;
 use crate::ward_box::WardBox;
@@ -34,10 +34,10 @@ impl Kind for WardBox {
     }
 
     fn to_form(&self) -> [u8; 60] {
-        let mut form = [0; 60];
-        let at = put_section(&mut form, 0, self.ward());
-        put_difference(&mut form, at, self.difference);
-        form
+        let mut form = Form::new();
+        form.put_section(self.ward());
+        put_difference(&mut form, self.difference);
+        form.bytes()
     }
 
     fn from_form(bytes: &[u8]) -> Option<WardBox> {
@@ -50,16 +50,16 @@ impl Kind for WardBox {
 }
 
 // Writes the weight difference after the count of numbers.
-fn put_difference(form: &mut [u8], at: usize, difference: Option<i16>) -> usize
-    requires { at + 3 ≤ length form.old }
-    ensures next { result ≡ at + length (difference_form difference) }
-    ensures after { form.new ≡ paste form.old at (difference_form difference) (length (difference_form difference)) }
+fn put_difference(form: &mut Form, difference: Option<i16>)
+    requires { form.old.at + 3 ≤ 60 }
+    ensures next { form.new.at ≡ form.old.at + length (difference_form difference) }
+    ensures after { form.new.bytes ≡ paste form.old.bytes form.old.at (difference_form difference) (length (difference_form difference)) }
 {
     match difference {
-        None => put(form, at, &[0]),
+        None => form.put(&[0]),
         Some(grams) => {
             let [low, high] = grams.to_le_bytes();
-            put(form, at, &[1, low, high])
+            form.put(&[1, low, high]);
         }
     }
 }
@@ -68,9 +68,7 @@ fn put_difference(form: &mut [u8], at: usize, difference: Option<i16>) -> usize
 fn after_ward(ward: &[u8], rest: &[u8]) -> Option<WardBox>
     ensures { result ≡ after_ward ward.now rest.now }
 {
-    let [count, rest @ ..] = rest else {
-        return None;
-    };
+    let (count, rest) = rest.split_first()?;
     match *count {
         0 => end(ward, None, rest),
         1 => with_difference(ward, rest),

@@ -16,6 +16,7 @@ fn is_difference(difference: Option<i16>) -> bool
 
 impl WardBox {
     // The box with these sections, or the first of them that is unlawful.
+    #[tactic(auto, unfolding(crate::specs::Boxes::ward_box))]
     pub fn new(ward: &[u8], difference: Option<i16>) -> Result<WardBox, Fault>
         ensures { result ≡ ward_box ward.now difference }
     {

@@ -1,6 +1,6 @@
-use Rattle.std.proofs.Common.{◌∙◌, rules}
+use Rattle.std.proofs.Common.{◌∙◌}
 use Rattle.items.specs.Texts.{chars}
-use Rattle.items.specs.Labels.{label, of_sections}
+use Rattle.items.specs.Labels.{of_sections}
 use Rattle.items.specs.Lawful.{lawful_label}
 use Rattle.items.specs.LabelsLemmas.{all_lawful, label_of}
 use Rattle.items.proofs.label.Label.new.Goals as goal
@@ -16,15 +16,3 @@ pub returns : goal.returns
 returns c =
     let h = all_lawful c.args.code.now c.args.batch.now c.args.expiry.now c.if-not-is_code.ensures c.if-not-is_batch.ensures c.if-not-is_expiry.ensures in
     label_of c.args.code.now c.args.batch.now c.args.expiry.now h _ c.short-code.ensures c.short-batch.ensures c.short-expiry.ensures
-
-pub returns-then-not-is_code : goal.returns-then-not-is_code
-unfolding label
-returns-then-not-is_code c = search rules
-
-pub returns-then-not-is_batch : goal.returns-then-not-is_batch
-unfolding label
-returns-then-not-is_batch c = search rules
-
-pub returns-then-not-is_expiry : goal.returns-then-not-is_expiry
-unfolding label
-returns-then-not-is_expiry c = search rules

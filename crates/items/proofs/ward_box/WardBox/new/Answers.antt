@@ -1,17 +1,9 @@
-use Rattle.std.proofs.Common.{refl, ◌∙◌, rules}
-use Rattle.items.specs.Boxes.{ward_box, of_sections}
+use Rattle.std.proofs.Common.{refl, ◌∙◌}
+use Rattle.items.specs.Boxes.{of_sections}
 use Rattle.items.specs.Lawful.{lawful_box}
 use Rattle.items.specs.Texts.{chars}
 use Rattle.items.specs.BoxesLemmas.{both_lawful, box_of}
 use Rattle.items.proofs.ward_box.WardBox.new.Goals as goal
-
-pub returns-then-not-is_ward : goal.returns-then-not-is_ward
-unfolding ward_box
-returns-then-not-is_ward c = search rules
-
-pub returns-then-not-is_difference : goal.returns-then-not-is_difference
-unfolding ward_box
-returns-then-not-is_difference c = search rules
 
 pub invariant_of-result : goal.invariant_of-result
 invariant_of-result c =
