@@ -24,10 +24,8 @@ pub fn slot_bytes<K: Kind>(number: u16, item: &K) -> [u8; 64]
 pub fn slot_in(block: &[u8; 512], slot: u16) -> [u8; 64]
     ensures { result ≡ take 64 (drop (64 * (slot % 8)) block.now) }
 {
-    let at = place(slot);
-    let mut bytes = [0; 64];
-    bytes.copy_from_slice(&block[at..at + 64]);
-    bytes
+    let (slots, _) = block.as_chunks::<64>();
+    slots[usize::from(slot % 8)]
 }
 
 // Puts the bytes of a slot into the block that has it.
