@@ -81,6 +81,8 @@ impl PackSet {
     }
 }
 
+// This and the functions below take the array and not the set: of an array the proofs know that
+// each byte is below 256, and of a field they do not.
 fn ones_in(bytes: &[u8; 4096]) -> u32
     ensures { result ≡ ones_in bytes.now }
 {

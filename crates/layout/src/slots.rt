@@ -32,7 +32,7 @@ pub fn slot_in(block: &[u8; 512], slot: u16) -> [u8; 64]
 pub fn put_slot(block: &mut [u8; 512], slot: u16, bytes: &[u8; 64])
     ensures { block.new ≡ with_slot block.old slot bytes.now }
 {
-    put(block, place(slot), bytes);
+    put(block, 64 * usize::from(slot % 8), bytes);
 }
 
 // The number in a slot in use, of this block, which is one of a set.
@@ -64,11 +64,4 @@ pub fn read_unused(block: u16, slot: &[u8; 64]) -> Result<(), Fault>
     } else {
         Err(Fault::not_register(block, Damage::Mark))
     }
-}
-
-// Where a slot begins, in the block that has it.
-fn place(slot: u16) -> usize
-    ensures { result ≡ 64 * (slot % 8) }
-{
-    64 * usize::from(slot % 8)
 }
