@@ -93,10 +93,12 @@ mod tests {
 
     // The last of the entries, as text.
     fn last(heap: Global, table: &[Entry]) -> Result<String, AllocError> {
-        match table.last() {
-            None => Ok(String::new(heap)),
-            Some(Ok(transaction)) => format!(in heap; "{transaction}"),
-            Some(Err(fault)) => number_and_place(heap, fault),
+        let Some(entry) = table.last() else {
+            return Ok(String::new(heap));
+        };
+        match entry {
+            Ok(transaction) => format!(in heap; "{transaction}"),
+            Err(fault) => number_and_place(heap, fault),
         }
     }
 
