@@ -42,6 +42,7 @@ impl Drop for Field<'_> {
     }
 }
 
+// Each method says that the bytes stay the ones lent (`same`), which a caller with a `&mut Field` knows from nothing else.
 impl Field<'_> {
     // Empties the field.
     pub(crate) fn clear(&mut self)

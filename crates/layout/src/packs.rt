@@ -20,7 +20,8 @@ impl PackSet {
         PackSet { bytes: [0; 4096] }
     }
 
-    // Puts a block in place of the j-th of the eight that spell the set.
+    // Puts a block in place of the j-th of the eight that spell the set. By its place in bytes, since
+    // the contract of `as_chunks_mut` says nothing of what is written.
     pub fn put_block(&mut self, j: u16, block: &[u8; 512])
         ensures { self.new.bytes ≡ with_part self.old.bytes j block.now }
     {
