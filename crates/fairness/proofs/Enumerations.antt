@@ -6,7 +6,8 @@ use Rattle.pairing.specs.Reservoir.{Reservoir, empty, with, without, width, widt
 use Rattle.pairing.specs.Rules.{bit, count_below}
 use Rattle.words.proofs.Evenness.{total_like}
 use Rattle.words.specs.Laws.{total}
-use Rattle.pairing.proofs.Sums.{total_none, total_mark}
+use Rattle.pairing.proofs.Sums.{total_mark}
+use Rattle.words.proofs.Sequences.{total_none}
 use Rattle.fairness.specs.Histories.{Call, Store, Take, Possible, stock_after, size_after, due_after, widths, below, each, draw_lists, count, same, run, admits}
 use Rattle.fairness.specs.Laws.{holds, every, found, none, Enumerated, OnlyTheSampleIsDrawn, FoundIsSameSet}
 use Rattle.fairness.proofs.Sums.{every_true, every_at_each}

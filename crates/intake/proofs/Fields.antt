@@ -6,7 +6,7 @@ use Rattle.std.proofs.lemmas.Bool.{leb-true, leb-false, le-leb, lt-leb, cond-tru
 use Rattle.fault.specs.Refusals.{line_too_long}
 use Rattle.lines.specs.Meaning.{meaning}
 use Rattle.intake.specs.Lines.{Entry, entry_of}
-use Rattle.intake.specs.Field.{Holds, Scanned, Sound, room, state_of, zeros, confirm_of, scanned, scan_of}
+use Rattle.intake.specs.Field.{Holds, Scanned, state_of, zeros, confirm_of, scanned, scan_of}
 use Rattle.intake.specs.declared.field.State.{State}
 use Rattle.intake.specs.declared.field.State.TheVariants.{Empty, Filling, Overlong}
 
@@ -139,6 +139,14 @@ overlong_more line b bytes not-confirm not-cancel h =
       });
     }
 
+never_empty : (b : Bool) (n : ℕ) → Empty ≡ cond b (Filling n) Overlong → ⊥
+never_empty true n e = cc
+never_empty false n e = cc
+
+pub empty_confirmed : (line bytes : List ℕ) → Holds line Empty bytes → None ≡ confirm_of line
+empty_confirmed [] bytes h = refl
+empty_confirmed (x ∷ xs) bytes h = absurd (never_empty (leb (length (x ∷ xs)) 100) (length (x ∷ xs)) h.state_is)
+
 pub filling_confirmed : (line : List ℕ) (n : ℕ) (bytes : List ℕ) → Holds line (Filling n) bytes → Some (meaning (take n bytes)) ≡ confirm_of line
 filling_confirmed line n bytes h =
     let f = filling_fits line n h.state_is in
@@ -155,16 +163,3 @@ pub confirmed : (line : List ℕ) (b : ℕ) (r : Option Entry) (state : State) (
     → b ≡ 10 → r ≡ confirm_of line → state ≡ Empty → bytes ≡ zeros → Scanned line b r state bytes
 confirmed line b r state bytes is answers empty blank =
     subst (λ m. Scanned line m r state bytes) (sym is) (record { answers = answers; holds = record { state_is = empty; bytes_are = blank } })
-
--- ---- a field that holds a line is one
-
-room_of : (line : List ℕ) → room (state_of line)
-room_of [] = tt
-room_of (x ∷ xs) = by_length (leb (length (x ∷ xs)) 100) refl
-  where
-    by_length : (b : Bool) → leb (length (x ∷ xs)) 100 ≡ b → room (cond b (Filling (length (x ∷ xs))) Overlong)
-    by_length true t = leb-true (length (x ∷ xs)) 100 t
-    by_length false t = tt
-
-pub holds_sound : (line : List ℕ) (state : State) (bytes : List ℕ) → Holds line state bytes → Sound state bytes
-holds_sound line state bytes h = (holds_size line state bytes h, subst room (sym h.state_is) (room_of line))

@@ -1,6 +1,6 @@
 -- What the scan field holds once some bytes were scanned since the last confirm or cancel.
 -- Assumes nothing.
-use Rattle.std.specs.Prelude.{◌≡◌, ℕ, ◌≤◌, cond, ◌||◌, List, [], ◌∷◌, ◌++◌, length, take, replicate, Some, None, Option, ◌==◌, nat_le}
+use Rattle.std.specs.Prelude.{◌≡◌, ℕ, cond, ◌||◌, List, [], ◌∷◌, ◌++◌, length, take, replicate, Some, None, Option, ◌==◌, nat_le}
 use Rattle.intake.specs.Lines.{Entry, entry_of}
 use Rattle.intake.specs.declared.field.State.{State}
 use Rattle.intake.specs.declared.field.State.TheVariants.{Empty, Filling, Overlong}
@@ -18,14 +18,11 @@ pub record Holds (line : List ℕ) (state : State) (bytes : List ℕ) : Type 0 w
   pub state_is : state ≡ state_of line
   pub bytes_are : bytes ≡ take 100 (line ++ zeros)
 
--- the bytes are a field, and it has room for those that the state tells of
-abbrev pub room : State → Type 0
-room Empty = Unit {0}
-room (Filling n) = n ≤ 100
-room Overlong = Unit {0}
-
-abbrev pub Sound : State → List ℕ → Type 0
-Sound state bytes = (length bytes ≡ 100) × room state
+-- so many bytes the state tells of that the field shows
+abbrev pub shown : State → ℕ
+shown Empty = 0
+shown (Filling n) = n
+shown Overlong = 0
 
 -- what was scanned since the last confirm or cancel, after one byte more
 abbrev pub scanned : List ℕ → ℕ → List ℕ

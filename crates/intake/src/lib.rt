@@ -49,10 +49,10 @@ fn is_added(byte: u8) -> bool
 fn fill(input: &[u8], field: &mut Field, table: &mut [Entry]) -> usize
     requires { (Holds [] field.old.state field.old.bytes.now) × (length (entries input.now) ≤ length table.old) }
     ensures same { field.new.bytes.ghost_name ≡ field.old.bytes.ghost_name }
-    ensures size { length field.new.bytes.now ≡ 100 }
     ensures count { result ≡ length (entries input.now) }
     ensures entries { table.new ≡ entries input.now ++ drop (length (entries input.now)) table.old }
 {
+    // a cursor into the table: no chain proof goes through a closure that scans into the field, so no `zip`
     let mut count = 0;
     for byte in input {
         if let Some(entry) = field.scan(*byte) {
@@ -64,8 +64,7 @@ fn fill(input: &[u8], field: &mut Field, table: &mut [Entry]) -> usize
 }
 
 // Scans over the field's bytes, which are zeros again on every way out.
-fn scan_over(input: &[u8], bytes: &mut [u8], table: &mut [Entry]) -> Result<usize, Fault>
-    requires { length bytes.old ≡ 100 }
+fn scan_over(input: &[u8], bytes: &mut [u8; FIELD], table: &mut [Entry]) -> Result<usize, Fault>
     ensures answer { result ≡ answer (overfull input.now table.old) input.now }
     ensures filled { table.new ≡ filled (overfull input.now table.old) input.now table.old }
     ensures wiped { bytes.new ≡ zeros }
@@ -89,8 +88,8 @@ pub fn intake(input: &[u8], buffer: &mut [u8], table: &mut [Entry]) -> Result<us
     ensures wiped { buffer.new ≡ wiped buffer.old }
     ensures cancelled { (other : List ℕ) → struck other ≡ struck input.now → entries other ≡ entries input.now }
 {
-    if buffer.len() < FIELD {
+    let Some(bytes) = buffer.first_chunk_mut::<FIELD>() else {
         return Err(Fault::TOO_SHORT);
-    }
-    scan_over(input, &mut buffer[0..FIELD], table)
+    };
+    scan_over(input, bytes, table)
 }

@@ -86,22 +86,20 @@ mod tests {
     fn number_and_place(heap: Global, fault: &Fault) -> Result<String, AllocError> {
         let number = fault.number();
         match fault.place() {
-            Place::Byte(at) => format!(in heap; "{number} at {at}"),
-            Place::Section(at) => format!(in heap; "{number} at {at}"),
+            Place::Byte(at) | Place::Section(at) => format!(in heap; "{number} at {at}"),
             _ => format!(in heap; "{number}"),
         }
     }
 
     // The last of the entries, as text.
     fn last(heap: Global, table: &[Entry]) -> Result<String, AllocError> {
-        let mut text = String::new(heap);
-        for entry in table {
-            text = match entry {
-                Ok(transaction) => format!(in heap; "{transaction}")?,
-                Err(fault) => number_and_place(heap, fault)?,
-            };
+        let Some(entry) = table.last() else {
+            return Ok(String::new(heap));
+        };
+        match entry {
+            Ok(transaction) => format!(in heap; "{transaction}"),
+            Err(fault) => number_and_place(heap, fault),
         }
-        Ok(text)
     }
 
     // What the line comes to, as text.
@@ -167,13 +165,7 @@ mod tests {
 
     // How many bytes have this value.
     fn count(bytes: &[u8], value: u8) -> usize {
-        let mut n = 0usize;
-        for byte in bytes {
-            if *byte == value {
-                n = n.saturating_add(1);
-            }
-        }
-        n
+        bytes.iter().filter(|byte| **byte == value).count()
     }
 
     // The field is zeros after a call, and the rest of the buffer is as it was; a buffer under 100 bytes is left alone.
@@ -181,15 +173,15 @@ mod tests {
     fn wiped(rt: HostRuntime) {
         let mut table = [untouched()];
         let mut buffer = [7; 102];
-        assert_eq!(rt; intake(b"T 1\nT 2", &mut buffer, &mut table).is_ok(), true);
+        assert!(rt; intake(b"T 1\nT 2", &mut buffer, &mut table).is_ok());
         assert_eq!(rt; count(&buffer, 0), 100);
         assert_eq!(rt; count(&buffer, 7), 2);
         let mut none: [Entry; 0] = [];
         let mut other = [7; 102];
-        assert_eq!(rt; intake(b"T 1\n", &mut other, &mut none).is_ok(), false);
+        assert!(rt; intake(b"T 1\n", &mut other, &mut none).is_err());
         assert_eq!(rt; count(&other, 0), 100);
         let mut short = [7; 99];
-        assert_eq!(rt; intake(b"T 1\n", &mut short, &mut table).is_ok(), false);
+        assert!(rt; intake(b"T 1\n", &mut short, &mut table).is_err());
         assert_eq!(rt; count(&short, 7), 99);
     }
 }

@@ -6,7 +6,8 @@ use Rattle.fault.specs.Refusals.{not_register}
 use Rattle.fault.specs.declared.Damage.TheVariants as damage
 use Rattle.fault.specs.declared.Fault.{Fault}
 use Rattle.octets.specs.Numbers.{number_at}
-use Rattle.layout.specs.Reading.{unless, or_else, unless_fault, blank_at, used_fault}
+use Rattle.std.specs.Option.{option_or}
+use Rattle.layout.specs.Reading.{unless, unless_fault, blank_at, used_fault}
 
 -- the form behind a slot's first four bytes
 pub form_read : {X : Type 0} (reading : List ℕ → Option X) (xs : List ℕ) (r : Option X) → length xs ≡ 64 → r ≡ reading (take 60 (drop 4 xs)) → is_some (reading (drop 4 xs)) ≡ is_some r
@@ -16,8 +17,8 @@ form_read reading xs r long is =
 -- the four tests of a slot in use
 abbrev used : ℕ → ℕ → Bool → Bool → Bool → Bool → Result ℕ Fault
 used b n zeros range known form =
-    unless_fault (or_else (unless zeros b damage.Mark) (or_else (unless range b damage.Range)
-    (or_else (unless known b damage.Disagreement) (unless form b damage.Range)))) n
+    unless_fault (option_or (unless zeros b damage.Mark) (option_or (unless range b damage.Range)
+    (option_or (unless known b damage.Disagreement) (unless form b damage.Range)))) n
 
 module _ {X : Type 0} (reading : List ℕ → Option X) (set : ℕ → Bool) (b : ℕ) (xs : List ℕ) where
   abbrev pub used_answer : Result ℕ Fault

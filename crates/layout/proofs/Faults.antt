@@ -5,15 +5,16 @@ use Rattle.std.proofs.lemmas.Bool.{cond-true, false≢true}
 use Rattle.fault.specs.declared.Damage.{Damage}
 use Rattle.fault.specs.declared.Damage.TheVariants as damage
 use Rattle.fault.specs.declared.Fault.{Fault}
-use Rattle.layout.specs.Reading.{unless, or_else, first_of, unless_fault, is_block, readable, bytes_of, block_fault}
 use Rattle.device.specs.Disk.{Entry}
+use Rattle.std.specs.Option.{option_or}
+use Rattle.layout.specs.Reading.{unless, first_of, unless_fault, is_block, readable, bytes_of, block_fault}
 
-pub or_else_parts : (a b : Option Fault) → or_else a b ≡ None → (a ≡ None) × (b ≡ None)
+pub or_else_parts : (a b : Option Fault) → option_or a b ≡ None → (a ≡ None) × (b ≡ None)
 or_else_parts (Some f) b h = let z : ◌≡◌ {A = ℕ} 0 1 = cc in absurd (omega arith)
 or_else_parts None b h = (refl, h)
 
-pub or_else_none : (a b : Option Fault) → a ≡ None → b ≡ None → or_else a b ≡ None
-or_else_none a b h k = ap (λ x. or_else x b) h ∙ k
+pub or_else_none : (a b : Option Fault) → a ≡ None → b ≡ None → option_or a b ≡ None
+or_else_none a b h k = ap (λ x. option_or x b) h ∙ k
 
 pub unless_passes : (t : Bool) (b : ℕ) (d : Damage) → unless t b d ≡ None → t ≡ true
 unless_passes true b d h = refl

@@ -12,10 +12,10 @@ use Rattle.octets.proofs.Numbers.{little_bytes, value_little, bytes_there, zeros
 use Rattle.octets.proofs.Under.{under_append, under_zeros, Under256}
 use Rattle.octets.proofs.Zeros.{zeros_blank}
 use Rattle.layout.proofs.Blocks.{block_length, block_under, block_from}
-use Rattle.pairing.specs.Ranges.{Ranges}
+use Rattle.pairing.specs.Ranges.{Ranges, in_range, balanced}
 use Rattle.pairing.specs.declared.counts.Counts.{Counts}
 use Rattle.layout.specs.Layout.{head_of, mark}
-use Rattle.layout.specs.Reading.{is_block, kind_in, counts_in, marked, known_kind, in_range, balanced, head_fault}
+use Rattle.layout.specs.Reading.{is_block, kind_in, counts_in, marked, known_kind, head_fault}
 use Rattle.layout.proofs.Faults.{or_else_parts, or_else_none, unless_passes, unless_none}
 
 -- ---- the numbers of a head

@@ -1,18 +1,19 @@
 -- A head, written piece by piece and read test by test.
 -- Assumes nothing.
-use Rattle.std.proofs.Common.{◌≡◌, ℕ, ◌%◌, ◌^◌, ◌<◌, Bool, true, false, eqb, List, [], ◌∷◌, get_or, Ok, Err, Result, sym, refl, ap, ◌∙◌, subst, ⊎_elim, arith}
-use Rattle.std.proofs.lemmas.Bool.{and_parts, leb-true, ltb-true, eqb-true, eq-eqb, ne_eqb, cases_Bool}
+use Rattle.std.proofs.Common.{leb, ltb, ◌&&◌, ◌+◌, ◌*◌, ◌≡◌, ℕ, ◌%◌, ◌^◌, ◌<◌, Bool, true, false, eqb, List, [], ◌∷◌, get_or, Ok, Err, Result, sym, refl, ap, ◌∙◌, ⊎_elim, arith}
+use Rattle.std.proofs.lemmas.Bool.{and_parts, ltb-true, eq-eqb, ne_eqb, cases_Bool}
 use Rattle.fault.specs.Refusals.{not_register}
 use Rattle.fault.specs.declared.Damage.TheVariants as damage
 use Rattle.fault.specs.declared.Fault.{Fault}
 use Rattle.octets.specs.Numbers.{little, number_at}
 use Rattle.octets.specs.Zeros.{zeros}
 use Rattle.octets.proofs.Numbers.{number_more}
-use Rattle.pairing.specs.Ranges.{Limits, Sample, Room, Usage, Ranges}
+use Rattle.pairing.specs.Ranges.{in_range, balanced}
 use Rattle.pairing.specs.declared.counts.Counts.{Counts}
 use Rattle.octets.specs.Edits.{placed}
 use Rattle.layout.specs.Layout.{mark, head_of}
-use Rattle.layout.specs.Reading.{unless, or_else, unless_fault, marked, kind_in, known_kind, counts_in, in_range, balanced, head_fault}
+use Rattle.std.specs.Option.{option_or}
+use Rattle.layout.specs.Reading.{unless, unless_fault, marked, kind_in, known_kind, counts_in, counts_fault, head_fault}
 
 -- ---- written
 
@@ -49,36 +50,11 @@ pub calls_in : (xs : List ℕ) → (counts_in xs).calls ≡ number_at xs 24 8
 unfolding counts_in
 calls_in xs = refl
 
--- what the test of the ranges tells
-record InRange (n : Counts) : Type 0 where
-  limits : Limits n
-  sample : Sample n
-  room : Room n
-  calls : n.calls < 2 ^ 32
-  usage : Usage n
-
-in_range_lem : (n : Counts) → in_range n ≡ true → InRange n
-in_range_lem n h =
-    let limits = and_parts _ _ (and_parts _ _ h).0 in
-    let rest = and_parts _ _ (and_parts _ _ h).1 in
-    let sample = and_parts _ _ rest.0 in
-    let room = and_parts _ _ rest.1 in
-    let used = and_parts _ _ room.1 in
-    record {
-      limits = (leb-true _ _ limits.0, leb-true _ _ limits.1);
-      sample = (leb-true _ _ sample.0, leb-true _ _ sample.1);
-      room = leb-true _ _ room.0;
-      calls = ltb-true _ _ used.0;
-      usage = leb-true _ _ used.1;
-    }
+test_4 : (a b c d e : Bool) → (a && (b && (c && (d && e)))) ≡ true → d ≡ true
+test_4 a b c d e h = (and_parts d e (and_parts c (d && e) (and_parts b (c && (d && e)) (and_parts a _ h).1).1).1).0
 
 pub calls_fit : (n : Counts) → in_range n ≡ true → n.calls < 2 ^ 32
-calls_fit n h = (in_range_lem n h).calls
-
-in_ranges : (n : Counts) → in_range n ≡ true → balanced n ≡ true → Ranges n
-in_ranges n h b =
-    let r = in_range_lem n h in
-    record { limits = r.limits; sample = r.sample; room = r.room; balance = eqb-true _ _ b; usage = r.usage }
+calls_fit n h = ltb-true n.calls (2 ^ 32) (test_4 _ _ (leb (n.size + (n.c1 + n.c2)) 32768) (ltb n.calls (2 ^ 32)) (leb n.words (64 * n.calls)) h)
 
 not_so : (t : Bool) → (t ≡ true → ⊥) → t ≡ false
 not_so t h = ⊎_elim (λ e. absurd (h e)) (λ e. e) (cases_Bool t)
@@ -86,8 +62,21 @@ not_so t h = ⊎_elim (λ e. absurd (h e)) (λ e. e) (cases_Bool t)
 -- the five tests of a head
 abbrev read : Counts → Bool → Bool → Bool → Bool → Bool → Result Counts Fault
 read n marks kind range sum own =
-    unless_fault (or_else (unless marks 0 damage.Mark) (or_else (unless kind 0 damage.Range) (or_else (unless range 0 damage.Range)
-    (or_else (unless sum 0 damage.Disagreement) (unless own 0 damage.OtherKind))))) n
+    unless_fault (option_or (unless marks 0 damage.Mark) (option_or (unless kind 0 damage.Range) (option_or (unless range 0 damage.Range)
+    (option_or (unless sum 0 damage.Disagreement) (unless own 0 damage.OtherKind))))) n
+
+-- the numbers are refused for the first test that they do not pass, or pass both
+refused : (n : Counts) (range sum own : Bool) (f : Fault) →
+    Err f ≡ unless_fault (option_or (unless range 0 damage.Range) (unless sum 0 damage.Disagreement)) n → Err f ≡ read n true true range sum own
+refused n false sum own f is = is
+refused n true false own f is = is
+refused n true true own f is = cc
+
+passed : (n : Counts) (range sum : Bool) (counts : Counts) →
+    Ok counts ≡ unless_fault (option_or (unless range 0 damage.Range) (unless sum 0 damage.Disagreement)) n → (range ≡ true) × (sum ≡ true) × (counts ≡ n)
+passed n false sum counts is = cc
+passed n true false counts is = cc
+passed n true true counts is = (refl, refl, cc)
 
 module _ (code : ℕ) (xs : List ℕ) where
   abbrev head_answer : Result Counts Fault
@@ -123,25 +112,21 @@ module _ (code : ℕ) (xs : List ℕ) where
       unfolding head_fault
       head_range f is never = ap Err is ∙ sym (λ i. read (counts_in xs) (m i) (is_known i) (not_so range never i) sum own)
 
-      module _ (r : range ≡ true) (n : Counts) (n-is : n ≡ counts_in xs) where
-        pub head_sum : (f : Fault) → f ≡ not_register 0 damage.Disagreement → (Ranges n → ⊥) → Err f ≡ head_answer
+      pub head_sum : (f : Fault) → Err f ≡ unless_fault (counts_fault (counts_in xs)) (counts_in xs) → Err f ≡ head_answer
+      unfolding head_fault
+      head_sum f is = refused (counts_in xs) range sum own f is ∙ sym (λ i. read (counts_in xs) (m i) (is_known i) range sum own)
+
+      module _ (counts : Counts) (made : Ok counts ≡ unless_fault (counts_fault (counts_in xs)) (counts_in xs)) where
+        pub head_other : (f : Fault) → f ≡ not_register 0 damage.OtherKind → (kind ≡ code → ⊥) → Err f ≡ head_answer
         unfolding head_fault
-        head_sum f is never =
-            let off : sum ≡ false = not_so sum (λ b. never (subst Ranges (sym n-is) (in_ranges (counts_in xs) r b))) in
-            ap Err is ∙ sym (λ i. read (counts_in xs) (m i) (is_known i) (r i) (off i) own)
+        head_other f is never =
+            let other : own ≡ false = ne_eqb _ _ (λ e. never (kind-here ∙ e)) in
+            let p = passed (counts_in xs) range sum counts made in
+            ap Err is ∙ sym (λ i. read (counts_in xs) (m i) (is_known i) (p.0 i) (p.1 i) (other i))
 
-        module _ (ranges : Ranges n) where
-          is_sum : sum ≡ true
-          is_sum = ap balanced (sym n-is) ∙ eq-eqb _ _ ranges.balance
-
-          pub head_other : (f : Fault) → f ≡ not_register 0 damage.OtherKind → (kind ≡ code → ⊥) → Err f ≡ head_answer
-          unfolding head_fault
-          head_other f is never =
-              let other : own ≡ false = ne_eqb _ _ (λ e. never (kind-here ∙ e)) in
-              ap Err is ∙ sym (λ i. read (counts_in xs) (m i) (is_known i) (r i) (is_sum i) (other i))
-
-          pub head_read : (counts : Counts) → counts ≡ n → kind ≡ code → Ok counts ≡ head_answer
-          unfolding head_fault
-          head_read counts is e =
-              let o : own ≡ true = eq-eqb _ _ (sym kind-here ∙ e) in
-              ap Ok (is ∙ n-is) ∙ sym (λ i. read (counts_in xs) (m i) (is_known i) (r i) (is_sum i) (o i))
+        pub head_read : kind ≡ code → Ok counts ≡ head_answer
+        unfolding head_fault
+        head_read e =
+            let o : own ≡ true = eq-eqb _ _ (sym kind-here ∙ e) in
+            let p = passed (counts_in xs) range sum counts made in
+            ap Ok p.2 ∙ sym (λ i. read (counts_in xs) (m i) (is_known i) (p.0 i) (p.1 i) (o i))

@@ -11,7 +11,8 @@ use Rattle.pairing.specs.Steps.{counts_of}
 use Rattle.pairing.specs.declared.counts.Counts.{Counts}
 use Rattle.layout.specs.Layout.{head_of, stock_block, slot_at, slot_block, content, Holds}
 use Rattle.layout.specs.Laws.{Storable, ReadsBack, ReadsExactly}
-use Rattle.layout.specs.Reading.{or_else, unless, first_of, unless_fault, is_block, bytes_of, block_fault, counts_in, head_fault, stock_in, in_set, ones_in, slot_in, slots_fault, fault_in, slots_in, spelled, decode}
+use Rattle.std.specs.Option.{option_or}
+use Rattle.layout.specs.Reading.{unless, first_of, unless_fault, is_block, bytes_of, block_fault, counts_in, head_fault, stock_in, in_set, ones_in, slot_in, slots_fault, fault_in, slots_in, spelled, decode}
 use Rattle.layout.proofs.Faults.{or_else_parts, or_else_none, unless_passes, unless_none, first_of_each, first_of_none, ok_none, block_read, block_reads}
 use Rattle.layout.proofs.HeadLaws.{head_is_block, head_reads, head_exact}
 use Rattle.layout.proofs.SlotLaws.{slot_block_is_block, slot_in_block, number_of, numbers_have, slots_read, slots_fault_none, SlotsExact, slots_exact}
@@ -88,9 +89,9 @@ none_fault code reading blocks h =
     let n = counts_in (bytes_of (blocks 0)) in
     let test = unless (eqb (ones_in (stock_in blocks)) n.size) 6 damage.Disagreement in
     let slots = first_of (slots_fault reading blocks n.sampled) 0 64 in
-    let a = or_else_parts (block_fault blocks 0) (or_else (head_fault code (bytes_of (blocks 0))) (or_else (first_of (block_fault blocks) 6 8) (or_else test slots))) h in
-    let b = or_else_parts (head_fault code (bytes_of (blocks 0))) (or_else (first_of (block_fault blocks) 6 8) (or_else test slots)) a.1 in
-    let c = or_else_parts (first_of (block_fault blocks) 6 8) (or_else test slots) b.1 in
+    let a = or_else_parts (block_fault blocks 0) (option_or (head_fault code (bytes_of (blocks 0))) (option_or (first_of (block_fault blocks) 6 8) (option_or test slots))) h in
+    let b = or_else_parts (head_fault code (bytes_of (blocks 0))) (option_or (first_of (block_fault blocks) 6 8) (option_or test slots)) a.1 in
+    let c = or_else_parts (first_of (block_fault blocks) 6 8) (option_or test slots) b.1 in
     let d = or_else_parts test slots c.1 in
     record {
       first = a.0;

@@ -1,6 +1,7 @@
 -- How blocks are read as a reservoir, and the first fault that keeps them from being one.
 -- Assumes nothing.
-use Rattle.std.specs.Prelude.{ℕ, zero, suc, ◌+◌, ◌*◌, ◌/◌, ◌%◌, ◌^◌, min, Bool, false, cond, not, ◌&&◌, ◌||◌, ltb, List, [], ◌∷◌, length, take, drop, is_some, Some, None, Ok, Err, sum_by, Option, Result, ◌==◌, count_ones, nat_le, nat_lt, slice_index}
+use Rattle.std.specs.Prelude.{ℕ, zero, suc, ◌+◌, ◌*◌, ◌/◌, ◌%◌, Bool, false, cond, not, ◌&&◌, ◌||◌, ltb, List, [], ◌∷◌, length, take, drop, is_some, Some, None, Ok, Err, sum_by, Option, Result, ◌==◌, count_ones, nat_lt, slice_index}
+use Rattle.std.specs.Option.{option_or}
 use Rattle.std.specs.Str.{bytes_eq}
 use Rattle.fault.specs.Refusals.{not_register}
 use Rattle.fault.specs.declared.Damage.{Damage}
@@ -9,6 +10,7 @@ use Rattle.fault.specs.declared.Fault.{Fault}
 use Rattle.octets.specs.Numbers.{number_at}
 use Rattle.octets.specs.Zeros.{every, blank}
 use Rattle.pairing.specs.Reservoir.{Slot, Reservoir}
+use Rattle.pairing.specs.Ranges.{in_range, balanced}
 use Rattle.pairing.specs.declared.counts.Counts.{Counts}
 use Rattle.layout.specs.Layout.{mark, joined}
 use Rattle.device.specs.Disk.{Entry}
@@ -19,14 +21,10 @@ use Rattle.device.specs.Disk.{Entry}
 abbrev pub unless : Bool → ℕ → Damage → Option Fault
 unless passes b damage = cond passes None (Some (not_register b damage))
 
-abbrev pub or_else : Option Fault → Option Fault → Option Fault
-or_else (Some f) later = Some f
-or_else None later = later
-
 -- the first fault of n parts, from the i-th on
 abbrev pub first_of : (ℕ → Option Fault) → ℕ → ℕ → Option Fault
 first_of fault i zero = None
-first_of fault i (suc n) = or_else (fault i) (first_of fault (i + 1) n)
+first_of fault i (suc n) = option_or (fault i) (first_of fault (i + 1) n)
 
 -- the answer, unless there is a fault
 abbrev pub unless_fault : {A : Type 0} → Option Fault → A → Result A Fault
@@ -77,22 +75,17 @@ marked xs = bytes_eq (take 4 xs) mark && (blank_at xs 5 3 && (blank_at xs 18 6 &
 abbrev pub known_kind : ℕ → Bool
 known_kind kind = kind == 1 || kind == 2
 
-abbrev pub in_range : Counts → Bool
-in_range n =
-    (nat_le 1 n.capacity && nat_le n.capacity 512)
-    && ((nat_le n.sampled n.capacity && nat_le n.sampled n.size)
-    && (nat_le (n.size + (n.c1 + n.c2)) 32768 && (nat_lt n.calls (2 ^ 32) && nat_le n.words (64 * n.calls))))
-
-abbrev pub balanced : Counts → Bool
-balanced n = n.sampled + n.c1 == min n.capacity (n.size + (n.c1 + n.c2))
+-- numbers that no reservoir has
+abbrev pub counts_fault : Counts → Option Fault
+counts_fault n = option_or (unless (in_range n) 0 damage.Range) (unless (balanced n) 0 damage.Disagreement)
 
 -- for a caller with this kind
 unfoldable pub head_fault : ℕ → List ℕ → Option Fault
 head_fault code xs =
-    or_else (unless (marked xs) 0 damage.Mark)
-    (or_else (unless (known_kind (kind_in xs)) 0 damage.Range)
-    (or_else (unless (in_range (counts_in xs)) 0 damage.Range)
-    (or_else (unless (balanced (counts_in xs)) 0 damage.Disagreement)
+    option_or (unless (marked xs) 0 damage.Mark)
+    (option_or (unless (known_kind (kind_in xs)) 0 damage.Range)
+    (option_or (unless (in_range (counts_in xs)) 0 damage.Range)
+    (option_or (unless (balanced (counts_in xs)) 0 damage.Disagreement)
     (unless (kind_in xs == code) 0 damage.OtherKind))))
 
 -- ---- the stock
@@ -138,9 +131,9 @@ left_at blocks i p = in_set (stock_in blocks) p && not (earlier (number_in block
 -- a slot in use, of block b: its zeros; its number, which is one of a set; its form
 unfoldable pub used_fault : {X : Type 0} → (List ℕ → Option X) → (ℕ → Bool) → ℕ → List ℕ → Option Fault
 used_fault reading set b xs =
-    or_else (unless (blank_at xs 2 2) b damage.Mark)
-    (or_else (unless (nat_lt (number_at xs 0 2) 32768) b damage.Range)
-    (or_else (unless (set (number_at xs 0 2)) b damage.Disagreement)
+    option_or (unless (blank_at xs 2 2) b damage.Mark)
+    (option_or (unless (nat_lt (number_at xs 0 2) 32768) b damage.Range)
+    (option_or (unless (set (number_at xs 0 2)) b damage.Disagreement)
     (unless (is_some (reading (drop 4 xs))) b damage.Range)))
 
 -- a slot that is not in use, of block b
@@ -155,16 +148,16 @@ slot_fault reading blocks k b i =
 -- the j-th block of slots
 unfoldable pub slots_fault : {X : Type 0} → (List ℕ → Option X) → (ℕ → Entry) → ℕ → ℕ → Option Fault
 slots_fault reading blocks k j =
-    or_else (block_fault blocks (14 + j)) (first_of (slot_fault reading blocks k (14 + j)) (8 * j) 8)
+    option_or (block_fault blocks (14 + j)) (first_of (slot_fault reading blocks k (14 + j)) (8 * j) 8)
 
 -- ---- all blocks, in this order
 
 unfoldable pub fault_in : {X : Type 0} → ℕ → (List ℕ → Option X) → (ℕ → Entry) → Option Fault
 fault_in code reading blocks =
-    or_else (block_fault blocks 0)
-    (or_else (head_fault code (bytes_of (blocks 0)))
-    (or_else (first_of (block_fault blocks) 6 8)
-    (or_else (unless (ones_in (stock_in blocks) == (counts_in (bytes_of (blocks 0))).size) 6 damage.Disagreement)
+    option_or (block_fault blocks 0)
+    (option_or (head_fault code (bytes_of (blocks 0)))
+    (option_or (first_of (block_fault blocks) 6 8)
+    (option_or (unless (ones_in (stock_in blocks) == (counts_in (bytes_of (blocks 0))).size) 6 damage.Disagreement)
     (first_of (slots_fault reading blocks (counts_in (bytes_of (blocks 0))).sampled) 0 64))))
 
 -- n slots, from the i-th on

@@ -1,14 +1,14 @@
 // The head, in block 0.
-ghost use Rattle.std.specs.Prelude.{◌≡◌, true, ◌&&◌, take};
+ghost use Rattle.std.specs.Prelude.{◌≡◌, ◌^◌, ◌<◌, take};
 ghost use Rattle.std.specs.Option.{SomeIff};
 ghost use Rattle.std.specs.Result.{result_map_both};
 ghost use Rattle.std.specs.Str.{bytes_eq};
 ghost use Rattle.layout.specs.Layout.{mark, head_of};
-ghost use Rattle.layout.specs.Reading.{blank_at, marked, known_kind, counts_in, in_range, head_fault, unless_fault};
+ghost use Rattle.layout.specs.Reading.{marked, known_kind, counts_in, counts_fault, head_fault, unless_fault};
 
 use fault::{Damage, Fault};
 use octets::{all_zero, put, u16_at, u64_at};
-use pairing::{Counters, Counts};
+use pairing::{Counters, Counts, CountsError};
 
 // The bytes of a head, for a kind's code.
 pub fn head_bytes(code: u8, counters: Counters) -> [u8; 512]
@@ -42,9 +42,7 @@ pub fn read_head(code: u8, bytes: &[u8; 512]) -> Result<Counters, Fault>
     let Some(counts) = counts_in(bytes) else {
         return Err(Fault::not_register(0, Damage::Range));
     };
-    let Some(counters) = Counters::checked(counts) else {
-        return Err(Fault::not_register(0, Damage::Disagreement));
-    };
+    let counters = counters_of(counts)?;
     if kind != code {
         return Err(Fault::not_register(0, Damage::OtherKind));
     }
@@ -70,14 +68,14 @@ fn is_kind(code: u8) -> bool
     code == 1 || code == 2
 }
 
-// The numbers in a head, where each is in its range.
+// The numbers in a head, where the count of calls is one that can be.
 fn counts_in(bytes: &[u8; 512]) -> Option<Counts>
-    ensures { SomeIff result (in_range (counts_in bytes.now) ≡ true) (counts_in bytes.now) }
+    ensures { SomeIff result ((counts_in bytes.now).calls < 2 ^ 32) (counts_in bytes.now) }
 {
     let Ok(calls) = u32::try_from(u64_at(bytes, 24)) else {
         return None;
     };
-    let counts = Counts {
+    Some(Counts {
         capacity: u16_at(bytes, 8),
         size: u16_at(bytes, 12),
         sampled: u16_at(bytes, 10),
@@ -85,21 +83,15 @@ fn counts_in(bytes: &[u8; 512]) -> Option<Counts>
         c2: u16_at(bytes, 16),
         calls,
         words: u64_at(bytes, 32),
-    };
-    if is_in_range(counts) {
-        Some(counts)
-    } else {
-        None
-    }
+    })
 }
 
-fn is_in_range(n: Counts) -> bool
-    ensures { result ≡ in_range n }
+// The counters with these numbers, or the refusal of a head that has them.
+fn counters_of(counts: Counts) -> Result<Counters, Fault>
+    ensures { result_map_both (λ c. c.counts) (λ f. f) result ≡ unless_fault (counts_fault counts) counts }
 {
-    1 <= n.capacity
-        && n.capacity <= 512
-        && n.sampled <= n.capacity
-        && n.sampled <= n.size
-        && u32::from(n.size) + u32::from(n.c1) + u32::from(n.c2) <= 32_768
-        && n.words <= 64 * u64::from(n.calls)
+    Counters::try_from(counts).map_err(|error| match error {
+        CountsError::OutOfRange => Fault::not_register(0, Damage::Range),
+        CountsError::Unbalanced => Fault::not_register(0, Damage::Disagreement),
+    })
 }

@@ -7,7 +7,7 @@ ghost use Rattle.layout.specs.Reading.{in_set, ones_in};
 use octets::put;
 
 // A set of pack numbers, one bit each: number p is bit p mod 8 of byte p / 8.
-#[derive(Clone, Copy)]
+#[derive(Clone, Copy, PartialEq, Eq, Debug)]
 pub struct PackSet {
     bytes: [u8; 4096],
 }
@@ -20,7 +20,8 @@ impl PackSet {
         PackSet { bytes: [0; 4096] }
     }
 
-    // Puts a block in place of the j-th of the eight that spell the set.
+    // Puts a block in place of the j-th of the eight that spell the set. By its place in bytes, since
+    // the contract of `as_chunks_mut` says nothing of what is written.
     pub fn put_block(&mut self, j: u16, block: &[u8; 512])
         ensures { self.new.bytes ≡ with_part self.old.bytes j block.now }
     {
@@ -39,10 +40,12 @@ impl PackSet {
     pub fn has(&self, number: u16) -> bool
         ensures { result ≡ in_set self.now.bytes number }
     {
-        match self.bytes.get(usize::from(number / 8)) {
-            Some(byte) => *byte >> (number % 8) & 1 == 1,
-            None => false,
-        }
+        let byte = self
+            .bytes
+            .get(usize::from(number / 8))
+            .copied()
+            .unwrap_or(0);
+        byte >> (number % 8) & 1 == 1
     }
 
     // Adds a number below 32,768; no other can be added.
@@ -79,26 +82,20 @@ impl PackSet {
     }
 }
 
+// This and the functions below take the array and not the set: of an array the proofs know that
+// each byte is below 256, and of a field they do not.
 fn ones_in(bytes: &[u8; 4096]) -> u32
     ensures { result ≡ ones_in bytes.now }
 {
-    let mut count = 0;
-    for byte in bytes {
-        count += byte.count_ones();
-    }
-    count
+    bytes.iter().map(|byte| byte.count_ones()).sum()
 }
 
 // The j-th of the eight blocks that spell a set; zeros past them.
 fn part(bytes: &[u8; 4096], j: u16) -> [u8; 512]
     ensures { result ≡ stock_block (in_set bytes.now) j }
 {
-    let mut block = [0; 512];
-    if j < 8 {
-        let from = 512 * usize::from(j);
-        block.copy_from_slice(&bytes[from..from + 512]);
-    }
-    block
+    let (blocks, _) = bytes.as_chunks::<512>();
+    blocks.get(usize::from(j)).copied().unwrap_or([0; 512])
 }
 
 fn same_bytes(left: &[u8; 4096], right: &[u8; 4096]) -> bool

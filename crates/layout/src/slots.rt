@@ -24,17 +24,15 @@ pub fn slot_bytes<K: Kind>(number: u16, item: &K) -> [u8; 64]
 pub fn slot_in(block: &[u8; 512], slot: u16) -> [u8; 64]
     ensures { result ≡ take 64 (drop (64 * (slot % 8)) block.now) }
 {
-    let at = place(slot);
-    let mut bytes = [0; 64];
-    bytes.copy_from_slice(&block[at..at + 64]);
-    bytes
+    let (slots, _) = block.as_chunks::<64>();
+    slots[usize::from(slot % 8)]
 }
 
 // Puts the bytes of a slot into the block that has it.
 pub fn put_slot(block: &mut [u8; 512], slot: u16, bytes: &[u8; 64])
     ensures { block.new ≡ with_slot block.old slot bytes.now }
 {
-    put(block, place(slot), bytes);
+    put(block, 64 * usize::from(slot % 8), bytes);
 }
 
 // The number in a slot in use, of this block, which is one of a set.
@@ -66,11 +64,4 @@ pub fn read_unused(block: u16, slot: &[u8; 64]) -> Result<(), Fault>
     } else {
         Err(Fault::not_register(block, Damage::Mark))
     }
-}
-
-// Where a slot begins, in the block that has it.
-fn place(slot: u16) -> usize
-    ensures { result ≡ 64 * (slot % 8) }
-{
-    64 * usize::from(slot % 8)
 }

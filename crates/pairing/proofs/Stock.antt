@@ -5,7 +5,8 @@ use Rattle.pairing.specs.Reservoir.{Slot, with, without}
 use Rattle.pairing.specs.Rules.{bit, occurs, count_below}
 use Rattle.words.proofs.Evenness.{total_like}
 use Rattle.words.specs.Laws.{total}
-use Rattle.pairing.proofs.Sums.{total_none, total_add, total_mark, count_total, count_at}
+use Rattle.pairing.proofs.Sums.{total_add, total_mark, count_total, count_at}
+use Rattle.words.proofs.Sequences.{total_none}
 
 pub bit_most : (b : Bool) → bit b ≤ 1
 bit_most true = omega arith

@@ -2,13 +2,9 @@
 use Rattle.std.proofs.Common.{◌≡◌, ℕ, zero, suc, ◌+◌, ◌*◌, ◌<◌, Bool, eqb, sym, refl, ap, ◌∙◌, inl, inr, one-mul, zero-mul, arith}
 use Rattle.std.proofs.lemmas.Bool.{eq-eqb, ne_eqb, cases_eq}
 use Rattle.words.proofs.Evenness.{total_like}
+use Rattle.words.proofs.Sequences.{total_none}
 use Rattle.words.specs.Laws.{total}
 use Rattle.pairing.specs.Rules.{bit, count_below}
-
-pub total_none : (n : ℕ) → total (λ v. 0) n ≡ 0
-unfolding total
-total_none zero = refl
-total_none (suc n) = omega (arith, total_none n)
 
 pub total_add : (f g : ℕ → ℕ) (n : ℕ) → total (λ v. f v + g v) n ≡ total f n + total g n
 unfolding total

@@ -6,7 +6,7 @@ mod make;
 mod steps;
 
 // The numbers of a reservoir, in their ranges.
-#[derive(Clone, Copy)]
+#[derive(Clone, Copy, PartialEq, Eq, Debug)]
 pub struct Counters {
     counts: Counts,
     ghost limits: { Limits counts },

@@ -6,14 +6,14 @@ mod counts;
 mod laws;
 
 pub use counters::Counters;
-pub use counts::Counts;
+pub use counts::{Counts, CountsError};
 pub use laws::{
     calls_are_possible, example_holds, numbers_follow, reachable_is_lawful, slots_are_distinct,
     slots_follow,
 };
 
 // What a store does to the sample.
-#[derive(Clone, Copy)]
+#[derive(Clone, Copy, PartialEq, Eq, Debug)]
 pub enum Effect {
     // the pack goes into the next free slot
     Enters,

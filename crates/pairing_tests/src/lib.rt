@@ -84,21 +84,16 @@ mod tests {
                     used: 1,
                 })
             }
-            Step::TakeSampled => counters.after_take_in(),
-            Step::TakeOther => counters.after_take_out(),
+            Step::TakeSampled => counters.after_take(true),
+            Step::TakeOther => counters.after_take(false),
         }
     }
 
     #[test]
     fn mixed_run(rt: HostRuntime) -> Result<(), Fail> {
-        let Some(mut counters) = Counters::new(3) else {
-            return Err(Fail::new("capacity 3"));
-        };
+        let mut counters = Counters::new(3).ok_or("capacity 3")?;
         for (step, size, sampled, c1, c2) in RUN {
-            let Some(next) = after(counters, step) else {
-                return Err(Fail::new("a call that can be made"));
-            };
-            counters = next;
+            counters = after(counters, step).ok_or("a call that can be made")?;
             let found = counters.get();
             assert_eq!(rt; found.size, size);
             assert_eq!(rt; found.sampled, sampled);
@@ -114,11 +109,9 @@ mod tests {
     fn refused(rt: HostRuntime) -> Result<(), Fail> {
         assert!(rt; Counters::new(0).is_none());
         assert!(rt; Counters::new(513).is_none());
-        let Some(empty) = Counters::new(2) else {
-            return Err(Fail::new("capacity 2"));
-        };
-        assert!(rt; empty.after_take_in().is_none());
-        assert!(rt; empty.after_take_out().is_none());
+        let empty = Counters::new(2).ok_or("capacity 2")?;
+        assert!(rt; empty.after_take(true).is_none());
+        assert!(rt; empty.after_take(false).is_none());
         assert!(rt; empty.after_store(Drawn { value: 1, used: 0 }).is_none());
         assert!(rt; empty.after_store(Drawn { value: 0, used: 65 }).is_none());
         assert!(rt; empty.after_store(Drawn { value: 0, used: 0 }).is_some());

@@ -14,7 +14,8 @@ use Rattle.journal.specs.declared.headers.Header.{Header}
 use Rattle.journal.specs.declared.headers.Header.TheVariants as header
 use Rattle.journal.specs.declared.headers.Pending.{Pending}
 use Rattle.journal.specs.declared.headers.PendingCall.{PendingCall}
-use Rattle.layout.specs.Reading.{decode, readable, block_fault, first_of, unless, or_else, unless_fault}
+use Rattle.std.specs.Option.{option_or}
+use Rattle.layout.specs.Reading.{decode, readable, block_fault, first_of, unless, unless_fault}
 use Rattle.plans.specs.Plans.{Plan, Finding, and_then, agrees, finishing, opened_by, open_plan, found}
 use Rattle.plans.specs.Views.{place_from, viewed}
 
@@ -152,7 +153,7 @@ module _ {X : Type 0} (code : ℕ) (reading : List ℕ → Option X) where
       first_of (block_fault others) i n ≡ first_of (block_fault blocks) i n
   faults_same blocks others same i zero h = refl
   faults_same blocks others same i (suc n) h =
-      λ j. or_else (unless (readable (same i h j)) i damage.Unreadable) (faults_same blocks others same (i + 1) n (omega arith) j)
+      λ j. option_or (unless (readable (same i h j)) i damage.Unreadable) (faults_same blocks others same (i + 1) n (omega arith) j)
 
   pub pending_same : (blocks others : ℕ → Entry) → ((b : ℕ) → 1 ≤ b → others b ≡ blocks b) → (p : Pending) → Targets p.blocks →
       found_in others (header.Pending p) ≡ found_in blocks (header.Pending p)

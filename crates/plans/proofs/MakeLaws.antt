@@ -15,7 +15,8 @@ use Rattle.journal.specs.declared.headers.Header.{Header}
 use Rattle.journal.specs.declared.headers.Header.TheVariants as header
 use Rattle.layout.specs.Laws.{Storable}
 use Rattle.layout.specs.Layout.{head_of, content, Laid}
-use Rattle.layout.specs.Reading.{decode, fault_in, head_fault, readable, bytes_of, block_fault, unless, or_else, unless_fault}
+use Rattle.std.specs.Option.{option_or}
+use Rattle.layout.specs.Reading.{decode, fault_in, head_fault, readable, bytes_of, block_fault, unless, unless_fault}
 use Rattle.plans.specs.Plans.{make_writes, found}
 use Rattle.plans.specs.Recovery.{Rests, Makes}
 use Rattle.plans.proofs.EmptyLayout.{empty_head, empty_rest}
@@ -36,11 +37,11 @@ unfolding head_fault
 zeros_fault code n = refl
 
 module _ {A : Type 0} (a later : Option Fault) (x : A) (f : Fault) where
-  first_fault : a ≡ Some f → unless_fault (or_else a later) x ≡ Err f
-  first_fault e = ap (λ o. unless_fault (or_else o later) x) e
+  first_fault : a ≡ Some f → unless_fault (option_or a later) x ≡ Err f
+  first_fault e = ap (λ o. unless_fault (option_or o later) x) e
 
-  second_fault : (before : Option Fault) → before ≡ None → a ≡ Some f → unless_fault (or_else before (or_else a later)) x ≡ Err f
-  second_fault before e h = λ i. unless_fault (or_else (e i) (or_else (h i) later)) x
+  second_fault : (before : Option Fault) → before ≡ None → a ≡ Some f → unless_fault (option_or before (option_or a later)) x ≡ Err f
+  second_fault before e h = λ i. unless_fault (option_or (e i) (option_or (h i) later)) x
 
 module _ {X : Type 0} (code : ℕ) (reading : List ℕ → Option X) where
   unreadable_head : (blocks : ℕ → Entry) → readable (blocks 0) ≡ false → Third (decode code reading blocks)

@@ -2,7 +2,8 @@
 use Rattle.std.proofs.Common.{◌≡◌, ℕ, suc, ◌+◌, ◌-◌, ◌<◌, IsErrAnd, Some, None, Ok, Err, Option, Result, sym, refl, ap, ◌∙◌, arith}
 use Rattle.std.proofs.lemmas.Result.{err_from_is_err_and}
 use Rattle.fault.specs.declared.Fault.{Fault}
-use Rattle.layout.specs.Reading.{unless_fault, or_else, first_of}
+use Rattle.std.specs.Option.{option_or}
+use Rattle.layout.specs.Reading.{unless_fault, first_of}
 
 -- ---- faults
 
@@ -46,10 +47,10 @@ module _ (fault : ℕ → Option Fault) (start n : ℕ) where
       all_left m = omega arith
 
   -- the next part, and what follows
-  rest_at : (i : ℕ) → i < n → first_of fault (start + i) (n - i) ≡ or_else (fault (start + i)) (first_of fault (start + (i + 1)) (n - (i + 1)))
+  rest_at : (i : ℕ) → i < n → first_of fault (start + i) (n - i) ≡ option_or (fault (start + i)) (first_of fault (start + (i + 1)) (n - (i + 1)))
   rest_at i h =
       ap (first_of fault (start + i)) (one_more i h)
-      ∙ ap (λ m. or_else (fault (start + i)) (first_of fault m (n - (i + 1)))) (moved i)
+      ∙ ap (λ m. option_or (fault (start + i)) (first_of fault m (n - (i + 1)))) (moved i)
     where
       one_more : (i : ℕ) → i < n → n - i ≡ suc (n - (i + 1))
       one_more i h = omega arith
@@ -58,10 +59,10 @@ module _ (fault : ℕ → Option Fault) (start n : ℕ) where
       moved i = omega arith
 
   pub rest_more : (i : ℕ) → i < n → Rest fault start n i → fault (start + i) ≡ None → Rest fault start n (i + 1)
-  rest_more i h so none = so ∙ rest_at i h ∙ ap (λ f. or_else f (first_of fault (start + (i + 1)) (n - (i + 1)))) none
+  rest_more i h so none = so ∙ rest_at i h ∙ ap (λ f. option_or f (first_of fault (start + (i + 1)) (n - (i + 1)))) none
 
   pub rest_stops : (i : ℕ) (x : Fault) → i < n → Rest fault start n i → fault (start + i) ≡ Some x → first_of fault start n ≡ Some x
-  rest_stops i x h so some = so ∙ rest_at i h ∙ ap (λ f. or_else f (first_of fault (start + (i + 1)) (n - (i + 1)))) some
+  rest_stops i x h so some = so ∙ rest_at i h ∙ ap (λ f. option_or f (first_of fault (start + (i + 1)) (n - (i + 1)))) some
 
   pub rest_all : (i : ℕ) → i ≡ n → Rest fault start n i → first_of fault start n ≡ None
   rest_all i e so = so ∙ ap (first_of fault (start + i)) (nothing i e)

@@ -6,7 +6,8 @@ use Rattle.fault.specs.declared.Damage.TheVariants as damage
 use Rattle.fault.specs.declared.Fault.{Fault}
 use Rattle.pairing.specs.Reservoir.{without}
 use Rattle.octets.specs.Numbers.{number_at}
-use Rattle.layout.specs.Reading.{unless_fault, or_else, first_of, used_fault, unused_fault, slot_fault, slot_in, number_in, left_at, earlier, in_set, stock_in, bytes_of, block_fault, slots_fault, unless, readable}
+use Rattle.std.specs.Option.{option_or}
+use Rattle.layout.specs.Reading.{unless_fault, first_of, used_fault, unused_fault, slot_fault, slot_in, number_in, left_at, earlier, in_set, stock_in, bytes_of, block_fault, slots_fault, unless, readable}
 use Rattle.reader.specs.Reads.{Gathered, SlotsRead}
 use Rattle.reader.proofs.Rests.{no_fault, a_fault, err_not_ok, exit_is, Rest, rest_none, rest_more, rest_stops, rest_all}
 use Rattle.reader.specs.declared.slots.Sampled.{Sampled}
@@ -209,11 +210,11 @@ module _ {X : Type 0} (reading : List ℕ → Option X) (view : ℕ → Entry) (
 
   block_fault_lem : (j : ℕ) → block_fault view (14 + j) ≡ None → slots_fault reading view k j ≡ first_of (slot_fault reading view k (14 + j)) (8 * j) 8
   unfolding slots_fault
-  block_fault_lem j e = ap (λ f. or_else f (first_of (slot_fault reading view k (14 + j)) (8 * j) 8)) e
+  block_fault_lem j e = ap (λ f. option_or f (first_of (slot_fault reading view k (14 + j)) (8 * j) 8)) e
 
   block_lost : (j : ℕ) (x : Fault) → block_fault view (14 + j) ≡ Some x → slots_fault reading view k j ≡ Some x
   unfolding slots_fault
-  block_lost j x e = ap (λ f. or_else f (first_of (slot_fault reading view k (14 + j)) (8 * j) 8)) e
+  block_lost j x e = ap (λ f. option_or f (first_of (slot_fault reading view k (14 + j)) (8 * j) 8)) e
 
   pub blocks_more :
       (j : ℕ) (s s' : Sampled) → j < 64 → BlocksSoFar j s → block_fault view (14 + j) ≡ None →

@@ -10,7 +10,8 @@ use Rattle.pairing.specs.Rules.{occurs}
 use Rattle.pairing.specs.Steps.{counts_of}
 use Rattle.pairing.specs.declared.counters.Counters.{Counters}
 use Rattle.pairing.specs.declared.counts.Counts.{Counts}
-use Rattle.layout.specs.Reading.{unless, or_else, unless_fault, first_of, block_fault, bytes_of, head_fault, counts_in, ones_in, stock_in, slots_fault, fault_in, spelled, decode, in_set, left_at, slots_in}
+use Rattle.std.specs.Option.{option_or}
+use Rattle.layout.specs.Reading.{unless, unless_fault, first_of, block_fault, bytes_of, head_fault, counts_in, ones_in, stock_in, slots_fault, fault_in, spelled, decode, in_set, left_at, slots_in}
 use Rattle.layout.proofs.SlotLaws.{SlotsExact, number_of}
 use Rattle.reader.specs.Reads.{Gathered, Finds, ReadAs}
 use Rattle.reader.proofs.Rests.{no_fault, a_fault, exit_is}
@@ -30,9 +31,9 @@ module _ {X : Type 0} (code : ℕ) (reading : List ℕ → Option X) (view : ℕ
   -- the faults in their order
   whole :
       {a b c d e : Option Fault} → block_fault view 0 ≡ a → head_fault code (bytes_of (view 0)) ≡ b → first_of (block_fault view) 6 8 ≡ c →
-      stock_fault ≡ d → slots_fault_lem ≡ e → decode code reading view ≡ unless_fault (or_else a (or_else b (or_else c (or_else d e)))) (spelled reading view)
+      stock_fault ≡ d → slots_fault_lem ≡ e → decode code reading view ≡ unless_fault (option_or a (option_or b (option_or c (option_or d e)))) (spelled reading view)
   unfolding decode fault_in
-  whole p q r s t = λ i. unless_fault (or_else (p i) (or_else (q i) (or_else (r i) (or_else (s i) (t i))))) (spelled reading view)
+  whole p q r s t = λ i. unless_fault (option_or (p i) (option_or (q i) (option_or (r i) (option_or (s i) (t i))))) (spelled reading view)
 
   pub first_lost : (x : Fault) → Err x ≡ unless_fault (block_fault view 0) (bytes_of (view 0)) → decode code reading view ≡ Err x
   first_lost x e = whole (a_fault _ _ x e) refl refl refl refl

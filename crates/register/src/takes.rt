@@ -1,9 +1,7 @@
 // Take: a pack leaves the stock, and the sample if it is there.
-ghost use Rattle.std.specs.Prelude.{◌≡◌, ℕ, ◌+◌, ◌-◌, ◌/◌, ◌<◌, ◌≤◌, length, take, is_some, Some, None, Ok};
-ghost use Rattle.std.specs.Option.{SomeIff, option_map};
+ghost use Rattle.std.specs.Prelude.{◌≡◌, ℕ, ◌+◌, ◌-◌, ◌/◌, ◌<◌, ◌≤◌, length, take, Some, None, Ok};
 ghost use Rattle.octets.specs.Zeros.{zeros};
 ghost use Rattle.pairing.specs.Reservoir.{Reservoir, taken, slot_of, without};
-ghost use Rattle.pairing.specs.Rules.{CanTake, after_take};
 ghost use Rattle.journal.specs.Writes.{write_at};
 ghost use Rattle.journal.specs.declared.headers.PendingCall.TheVariants as pending;
 ghost use Rattle.layout.specs.Layout.{content, stock_block};
@@ -143,16 +141,6 @@ fn stock_change(stock: PackSet, number: u16) -> Write
     }
 }
 
-// The counters after a take, by the slot that it frees.
-fn after_take(counters: Counters, slot: Option<u16>) -> Option<Counters>
-    ensures { SomeIff (option_map (λ c. c.counts) result) (CanTake (is_some slot) counters.counts) (after_take (is_some slot) counters.counts) }
-{
-    match slot {
-        Some(_) => counters.after_take_in(),
-        None => counters.after_take_out(),
-    }
-}
-
 // The journal header of a take, by the counters before it.
 fn header(counters: Counters, number: u16, blocks: [u16; 4]) -> Pending
     ensures { result ≡ record { call = pending.Take; number = number; calls = counters.counts.calls + 1; words = counters.counts.words; blocks = blocks } }
@@ -177,7 +165,7 @@ fn plan_take<K: Kind, D: Device>(
 {
     let counters = found.counters;
     let slot = found_slot(found, number);
-    let Some(after) = after_take(counters, slot) else {
+    let Some(after) = counters.after_take(slot.is_some()) else {
         return Err(Fault::LAST_CALL); // not reached: the take can be made
     };
     let [first, second] = slot_changes::<K, D>(device, slot, counters)?;

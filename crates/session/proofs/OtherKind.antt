@@ -12,7 +12,8 @@ use Rattle.pairing.specs.Reservoir.{Reservoir}
 use Rattle.pairing.specs.Steps.{counts_of}
 use Rattle.pairing.specs.declared.counts.Counts.{Counts}
 use Rattle.layout.specs.Layout.{Holds, head_of}
-use Rattle.layout.specs.Reading.{or_else, unless_fault, bytes_of, kind_in, head_fault, fault_in, spelled, decode}
+use Rattle.std.specs.Option.{option_or}
+use Rattle.layout.specs.Reading.{unless_fault, bytes_of, kind_in, head_fault, fault_in, spelled, decode}
 use Rattle.layout.proofs.Faults.{unless_none, block_reads}
 use Rattle.layout.proofs.HeadLaws.{Known, head_reads, head_passed, head_is_block}
 use Rattle.layout.proofs.LayoutLaws.{parts_held}
@@ -37,11 +38,11 @@ other_kind = not_register 0 damage.OtherKind
 
 -- ---- the head of another kind
 
-or_else_next : (a b : Option Fault) → a ≡ None → or_else a b ≡ b
-or_else_next a b e = ap (λ x. or_else x b) e
+or_else_next : (a b : Option Fault) → a ≡ None → option_or a b ≡ b
+or_else_next a b e = ap (λ x. option_or x b) e
 
-or_else_found : (a b later : Option Fault) (f : Fault) → a ≡ None → b ≡ Some f → or_else a (or_else b later) ≡ Some f
-or_else_found a b later f h k = λ i. or_else (h i) (or_else (k i) later)
+or_else_found : (a b later : Option Fault) (f : Fault) → a ≡ None → b ≡ Some f → option_or a (option_or b later) ≡ Some f
+or_else_found a b later f h k = λ i. option_or (h i) (option_or (k i) later)
 
 -- its own kind is told last
 head_other :

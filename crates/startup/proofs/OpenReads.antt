@@ -16,7 +16,8 @@ use Rattle.journal.specs.declared.Write.{Write}
 use Rattle.journal.specs.declared.headers.Header.{Header}
 use Rattle.journal.specs.declared.headers.Header.TheVariants as header
 use Rattle.journal.specs.declared.headers.Pending.{Pending}
-use Rattle.layout.specs.Reading.{decode, unless_fault, block_fault, first_of, bytes_of, or_else}
+use Rattle.std.specs.Option.{option_or}
+use Rattle.layout.specs.Reading.{decode, unless_fault, block_fault, first_of, bytes_of}
 use Rattle.plans.specs.Plans.{Plan, and_then, answering, agrees, pending_changes, finished_call, finishing, open_answer, opened_by, open_plan, too_small}
 use Rattle.plans.specs.Views.{viewed}
 use Rattle.plans.specs.declared.Finished.{Finished}
@@ -56,7 +57,7 @@ four_images d (a ∷ b ∷ c ∷ e ∷ []) w x y z n h i j k =
     let r = no_fault _ _ _ j in
     let s = no_fault _ _ _ k in
     (λ t. Ok (p.1 t ∷ q.1 t ∷ r.1 t ∷ s.1 t ∷ []))
-    ∙ (λ t. unless_fault (or_else (sym p.0 t) (or_else (sym q.0 t) (or_else (sym r.0 t) (or_else (sym s.0 t) None)))) (pending_changes d 2 (a ∷ b ∷ c ∷ e ∷ [])))
+    ∙ (λ t. unless_fault (option_or (sym p.0 t) (option_or (sym q.0 t) (option_or (sym r.0 t) (option_or (sym s.0 t) None)))) (pending_changes d 2 (a ∷ b ∷ c ∷ e ∷ [])))
 four_images d (a ∷ b ∷ c ∷ e ∷ f ∷ ts) w x y z n h i j k = absurd (omega arith)
 
 -- ---- a pending call

@@ -1,3 +1,4 @@
+pub mod Chunks
 pub mod Evenness
 pub mod Examples
 pub mod FirstWord

@@ -1,4 +1,4 @@
--- AllByRecursion choices of words fall evenly on the draws. Assumes nothing.
+-- All choices of words fall evenly on the draws. Assumes nothing.
 use Rattle.std.proofs.Common.{◌≡◌, ℕ, zero, suc, ◌+◌, ◌-◌, ◌*◌, ◌/◌, ◌%◌, ◌^◌, ◌<◌, ◌≤◌, Bool, true, false, cond, eqb, List, [], ◌∷◌, length, get_or, drop, Some, None, Option, sym, refl, ap, ◌∙◌, inl, inr, add-mul, one-mul, zero-mul, arith}
 use Rattle.std.proofs.lemmas.List.{drop_all, drop_more}
 use Rattle.std.proofs.lemmas.Bool.{lt-ltb, le-ltb, cases_eq}
@@ -12,7 +12,7 @@ use Rattle.words.proofs.Looks.{draw_wide, looked_end, at_word}
 
 -- ---- sums and ways
 
-total_none : (n : ℕ) → total (λ v. 0) n ≡ 0
+pub total_none : (n : ℕ) → total (λ v. 0) n ≡ 0
 unfolding total
 total_none zero = refl
 total_none (suc n) = omega (arith, total_none n)

@@ -8,7 +8,7 @@ use crate::width::Width;
 use fault::Fault;
 
 // A draw below its width, and how many words it used.
-#[derive(Clone, Copy)]
+#[derive(Clone, Copy, PartialEq, Eq, Debug)]
 pub struct Drawn {
     pub value: u16,
     pub used: u8,

@@ -1,5 +1,6 @@
 ghost use Rattle.std.specs.Prelude.{◌≡◌, ℕ, Option};
-ghost use Rattle.words.specs.Sources.{tape_word, or_else};
+ghost use Rattle.std.specs.Option.{option_or};
+ghost use Rattle.words.specs.Sources.{tape_word};
 
 // A source of words. Asking changes nothing, and a place always has the same answer.
 pub trait Source {
@@ -11,7 +12,7 @@ pub trait Source {
 }
 
 // The words that the caller's bytes spell, four bytes each, the lowest first.
-#[derive(Clone, Copy)]
+#[derive(Clone, Copy, PartialEq, Eq, Debug)]
 pub struct Tape<'a> {
     pub bytes: &'a [u8],
 }
@@ -20,19 +21,10 @@ impl Source for Tape<'_> {
     ghost words = { λ tape. tape_word tape.bytes.now };
 
     fn word(&self, place: u64) -> Option<u32> {
-        tape_word(self.bytes, place)
+        let (words, _) = self.bytes.as_chunks::<4>();
+        let word = words.get(place as usize)?;
+        Some(u32::from_le_bytes(*word))
     }
-}
-
-fn tape_word(bytes: &[u8], place: u64) -> Option<u32>
-    ensures { result ≡ tape_word bytes.now place }
-{
-    let place = place as usize;
-    if place >= bytes.len() / 4 {
-        return None;
-    }
-    let at = 4 * place;
-    Some(u32::from_le_bytes([bytes[at], bytes[at + 1], bytes[at + 2], bytes[at + 3]]))
 }
 
 // Two sources: the first's words, and the second's where the first has none.
@@ -43,12 +35,9 @@ pub struct Fallback<A, B> {
 }
 
 impl<A: Source, B: Source> Source for Fallback<A, B> {
-    ghost words = { λ both n. or_else (A.Source.words both.first n) (B.Source.words both.second n) };
+    ghost words = { λ both n. option_or (A.Source.words both.first n) (B.Source.words both.second n) };
 
     fn word(&self, place: u64) -> Option<u32> {
-        match self.first.word(place) {
-            Some(word) => Some(word),
-            None => self.second.word(place),
-        }
+        self.first.word(place).or_else(|| self.second.word(place))
     }
 }

@@ -3,28 +3,20 @@
 
 #[cfg(test)]
 mod tests {
-    use words::{Fallback, Source, Tape, Width};
+    use words::{Drawn, Fallback, Source, Tape, Width};
 
     // Whether a draw of the width from the place gives the value, and uses so many words.
     fn draws<S: Source>(source: &S, width: u16, place: u64, value: u16, used: u8) -> bool {
-        let Some(width) = Width::new(width) else {
-            return false;
-        };
-        match words::draw(source, width, place) {
-            Ok(drawn) => drawn.value == value && drawn.used == used,
-            Err(_) => false,
-        }
+        Width::new(width).is_some_and(|width| {
+            words::draw(source, width, place).is_ok_and(|drawn| drawn == Drawn { value, used })
+        })
     }
 
     // Whether it is refused with number 10.
     fn refuses<S: Source>(source: &S, width: u16, place: u64) -> bool {
-        let Some(width) = Width::new(width) else {
-            return false;
-        };
-        match words::draw(source, width, place) {
-            Ok(_) => false,
-            Err(fault) => fault.number() == 10,
-        }
+        Width::new(width).is_some_and(|width| {
+            words::draw(source, width, place).is_err_and(|fault| fault.number() == 10)
+        })
     }
 
     #[test]

@@ -1,12 +1,8 @@
 -- Each byte takes the table one step on.
 use Rattle.std.proofs.Common.{◌∙◌, arith}
-use Rattle.intake.proofs.Fields.{holds_size, holds_sound}
 use Rattle.intake.proofs.Fills.{filled_is, filled_same, filled_more, room_more, count_all, filled_all}
 use Rattle.intake.proofs.fill.Goals as goal
 use Rattle.intake.proofs.fill.Goals.{in-Some, in_default}
-
-pub scan-requires : goal.scan-requires
-scan-requires c = holds_sound c.loop-byte.invariant.1.line c.loop-byte.field.state c.loop-byte.field.bytes.now c.loop-byte.invariant.1.holds
 
 pub bounds-table-count : goal.bounds-table-count
 bounds-table-count c =
@@ -34,7 +30,6 @@ returns c =
     let f = c.loop-byte.invariant.1 in
     record {
       same = c.loop-byte.invariant.0;
-      size = holds_size f.line c.loop-byte.field.state c.loop-byte.field.bytes.now f.holds;
       count = count_all _ _ _ _ _ _ _ f c.loop-byte-test.false;
       entries = filled_all _ _ _ _ _ _ _ f c.loop-byte-test.false;
     }

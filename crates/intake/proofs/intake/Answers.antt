@@ -1,16 +1,16 @@
 -- The buffer has no field, or it has one and the bytes behind stay.
-use Rattle.std.proofs.Common.{◌≡◌, true, false, cond, ◌||◌, ltb, ◌++◌, length, drop, replicate, sym, ap, ◌∙◌}
+use Rattle.std.proofs.Common.{◌≡◌, true, false, cond, ◌||◌, ltb, ◌++◌, length, drop, replicate, sym, refl, ap, ◌∙◌}
 use Rattle.std.proofs.lemmas.Bool.{lt-ltb, le-ltb}
 use Rattle.intake.specs.Intake.{answer, filled, overfull}
 use Rattle.intake.proofs.Strikes.{entries_struck}
 use Rattle.intake.proofs.intake.Goals as goal
 
-pub returns-then-buffer-lt-FIELD : goal.returns-then-buffer-lt-FIELD
-returns-then-buffer-lt-FIELD c =
+pub returns-in_default : goal.returns-in_default
+returns-in_default c =
     let input = c.args.input.now in
     let table = c.args.table.now in
     let buffer = c.args.buffer.now in
-    let short : ltb (length buffer) 100 ≡ true = lt-ltb (length buffer) 100 c.if-buffer-lt-FIELD.true in
+    let short : ltb (length buffer) 100 ≡ true = lt-ltb (length buffer) 100 c.in_default.ensures.cases in
     record {
       answer = sym (ap (λ b. answer (b || overfull input table) input) short);
       filled = sym (ap (λ b. filled (b || overfull input table) input table) short);
@@ -23,7 +23,7 @@ returns c =
     let input = c.args.input.now in
     let table = c.args.table.now in
     let buffer = c.args.buffer.now in
-    let room : ltb (length buffer) 100 ≡ false = le-ltb (length buffer) 100 c.if-buffer-lt-FIELD.false in
+    let room : ltb (length buffer) 100 ≡ false = le-ltb (length buffer) 100 (c.in-Some.ensures.variant.0 refl) in
     record {
       answer = c.scan_over.ensures.answer ∙ sym (ap (λ b. answer (b || overfull input table) input) room);
       filled = c.scan_over.ensures.filled ∙ sym (ap (λ b. filled (b || overfull input table) input table) room);

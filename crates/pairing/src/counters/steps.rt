@@ -1,7 +1,8 @@
 ghost use Rattle.std.specs.Prelude.{◌≡◌, ◌-◌, ◌<◌, ◌≤◌, IfSome};
 ghost use Rattle.std.specs.Option.{option_map, SomeIff};
 ghost use Rattle.pairing.specs.Reservoir.{c1_after, c2_after};
-ghost use Rattle.pairing.specs.Steps.{width_at, effect_at, filled_at, sampled_after, after_store, after_take_in, after_take_out, CanStore, CanTakeIn, CanTakeOut};
+ghost use Rattle.pairing.specs.Steps.{width_at, effect_at, filled_at, sampled_after, after_store, CanStore};
+ghost use Rattle.pairing.specs.Rules.{after_take, CanTake};
 
 use crate::Effect;
 use crate::counters::Counters;
@@ -75,58 +76,45 @@ impl Counters {
     {
         let n = self.counts;
         let width = self.next_width();
-        if n.calls == u32::MAX || 32_768 < width || width <= drawn.value || 64 < drawn.used {
+        if 32_768 < width || width <= drawn.value || 64 < drawn.used {
             return None;
         }
         let effect = self.effect(drawn.value);
         let counts = Counts {
-            capacity: n.capacity,
+            calls: n.calls.checked_add(1)?,
             size: n.size + 1,
             sampled: sampled_after(n.sampled, effect),
             c1: c1_after(n.c1, effect),
             c2: c2_after(n.c2, effect),
-            calls: n.calls + 1,
             words: n.words + u64::from(drawn.used),
+            ..n
         };
         Some(Counters { counts })
     }
 
-    // The counters after a take of a pack in the sample.
-    pub fn after_take_in(self) -> Option<Counters>
-        ensures { SomeIff (option_map (λ c. c.counts) result) (CanTakeIn self.counts) (after_take_in self.counts) }
+    // The counters after a take of a pack in the sample, or of one out of it.
+    pub fn after_take(self, in_sample: bool) -> Option<Counters>
+        ensures { SomeIff (option_map (λ c. c.counts) result) (CanTake in_sample self.counts) (after_take in_sample self.counts) }
     {
         let n = self.counts;
-        if n.calls == u32::MAX || n.sampled == 0 {
+        let calls = n.calls.checked_add(1)?;
+        let counts = if in_sample {
+            Counts {
+                calls,
+                sampled: n.sampled.checked_sub(1)?,
+                size: n.size - 1,
+                c1: n.c1 + 1,
+                ..n
+            }
+        } else if n.sampled < n.size {
+            Counts {
+                calls,
+                size: n.size - 1,
+                c2: n.c2 + 1,
+                ..n
+            }
+        } else {
             return None;
-        }
-        let counts = Counts {
-            capacity: n.capacity,
-            size: n.size - 1,
-            sampled: n.sampled - 1,
-            c1: n.c1 + 1,
-            c2: n.c2,
-            calls: n.calls + 1,
-            words: n.words,
-        };
-        Some(Counters { counts })
-    }
-
-    // The counters after a take of a pack out of the sample.
-    pub fn after_take_out(self) -> Option<Counters>
-        ensures { SomeIff (option_map (λ c. c.counts) result) (CanTakeOut self.counts) (after_take_out self.counts) }
-    {
-        let n = self.counts;
-        if n.calls == u32::MAX || n.size <= n.sampled {
-            return None;
-        }
-        let counts = Counts {
-            capacity: n.capacity,
-            size: n.size - 1,
-            sampled: n.sampled,
-            c1: n.c1,
-            c2: n.c2 + 1,
-            calls: n.calls + 1,
-            words: n.words,
         };
         Some(Counters { counts })
     }
@@ -138,8 +126,7 @@ fn sampled_after(sampled: u16, effect: Effect) -> u16
 {
     match effect {
         Effect::Enters => sampled + 1,
-        Effect::Replaces(_) => sampled,
-        Effect::StaysOut => sampled,
+        Effect::Replaces(_) | Effect::StaysOut => sampled,
     }
 }
 
@@ -148,8 +135,7 @@ fn c1_after(c1: u16, effect: Effect) -> u16
 {
     match effect {
         Effect::Enters => c1.saturating_sub(1),
-        Effect::Replaces(_) => c1,
-        Effect::StaysOut => c1,
+        Effect::Replaces(_) | Effect::StaysOut => c1,
     }
 }
 
@@ -157,8 +143,7 @@ fn c2_after(c2: u16, effect: Effect) -> u16
     ensures { result ≡ c2_after c2 effect }
 {
     match effect {
-        Effect::Enters => c2,
-        Effect::Replaces(_) => c2,
+        Effect::Enters | Effect::Replaces(_) => c2,
         Effect::StaysOut => c2.saturating_sub(1),
     }
 }

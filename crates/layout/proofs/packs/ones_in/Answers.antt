@@ -1,23 +1,24 @@
-use Rattle.std.proofs.Common.{◌<◌, ◌≤◌, get_or, sum_by, ap, ◌∙◌, arith, take_all, rules}
+use Rattle.std.proofs.Common.{◌*◌, ◌≤◌, length, sum_by, arith, rules, tests}
 use lib.Count.{ones}
 use Rattle.std.proofs.lemmas.Nat.{ones-le}
-use Rattle.std.proofs.lemmas.List.Sums.{sum_by_more}
+use Rattle.std.proofs.lemmas.List.{get_or_default}
+use Rattle.std.proofs.lemmas.Iterator.{YieldsList-from_slice, YieldsList-from_map}
+use Rattle.std.proofs.lemmas.Iterator.Consumers.{sum_by_from_yields_List, fits_by_from_yields_list}
+use Rattle.std.proofs.lemmas.List.Sums.{sum_by-le}
 use Rattle.layout.specs.Reading.{ones_in}
 use Rattle.layout.proofs.packs.ones_in.Goals as goal
 
-pub overflow_add-count : goal.overflow_add-count
-overflow_add-count c =
-    let small : get_or c.args.bytes.now c.loop-byte.byte-index 0 < 256 = search rules in
-    let few : ones (get_or c.args.bytes.now c.loop-byte.byte-index 0) ≤ 8 = ones-le 8 _ small in
-    search rules
-
-pub loop-byte-preserved : goal.loop-byte-preserved
-loop-byte-preserved c =
-    let small : get_or c.args.bytes.now c.loop-byte.byte-index 0 < 256 = search rules in
-    let few : ones (get_or c.args.bytes.now c.loop-byte.byte-index 0) ≤ 8 = ones-le 8 _ small in
-    let more = sum_by_more ones c.args.bytes.now c.loop-byte.byte-index 0 (omega (arith, c.told-bytes)) in
-    (omega (arith, c.loop-byte.invariant.0, more), omega (arith, c.loop-byte.invariant.1, few))
+pub sum-requires-clause-fits : goal.sum-requires-clause-fits
+sum-requires-clause-fits c =
+    let xs = c.args.bytes.now in
+    let most : sum_by ones xs ≤ length xs * 8 = sum_by-le ones 8 xs (λ k d h. ones-le 8 _ (omega (arith, get_or_default xs k d 0 h, c.fits-bytes k))) in
+    fits_by_from_yields_list ones xs c.map.result _
+    (YieldsList-from_map _ ones (YieldsList-from_slice xs cc) c.map.ensures.closure (λ x r q k. search (rules, tests)))
+    (omega (arith, most, c.told-bytes))
 
 pub returns : goal.returns
 unfolding ones_in
-returns c = c.loop-byte.invariant.0 ∙ ap (sum_by ones) (take_all c.loop-byte.byte-index c.args.bytes.now (omega (arith, c.told-bytes)))
+returns c =
+    let xs = c.args.bytes.now in
+    sum_by_from_yields_List ones xs c.map.result c.sum.result c.sum.ensures.ran
+    (YieldsList-from_map _ ones (YieldsList-from_slice xs cc) c.map.ensures.closure (λ x r q k. search (rules, tests)))

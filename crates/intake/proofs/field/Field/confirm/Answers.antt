@@ -1,13 +1,17 @@
-use Rattle.std.proofs.Common.{◌≡◌, ◌-◌, take, ap, ◌∙◌, arith}
-use Rattle.lines.specs.Meaning.{meaning}
+-- Each state tells what the line comes to.
+use Rattle.std.proofs.Common.{Some, ap, ◌∙◌, subst}
+use Rattle.intake.specs.Field.{Holds}
+use Rattle.intake.proofs.Fields.{empty_confirmed, filling_confirmed, overlong_confirmed}
 use Rattle.intake.proofs.field.Field.confirm.Goals as goal
+use Rattle.intake.proofs.field.Field.confirm.Goals.{in-Empty, in-Filling, in-Overlong}
 
-pub returns : goal.returns
-returns c =
-    let whole : c.args.n - 0 ≡ c.args.n = omega arith in
-    record {
-      same = c.clear.ensures.same;
-      state = c.clear.ensures.state;
-      bytes = c.clear.ensures.bytes;
-      line = c.parse-line.ensures.value ∙ ap (λ n. meaning (take n c.args.self.now.bytes.now)) whole;
-    }
+pub returns-clause-line : goal.returns-clause-line
+returns-clause-line c = λ line h.
+    let bytes = c.args.self.now.bytes.now in
+    elim c.match-self.branch [
+      | in-Empty w ↦ w.entry-is ∙ empty_confirmed line bytes (subst (λ s. Holds line s bytes) w.in-Empty.is h)
+      | in-Filling w ↦
+          w.entry-is ∙ ap Some w.parse.ensures.value
+          ∙ filling_confirmed line w.in-Filling.n bytes (subst (λ s. Holds line s bytes) w.in-Filling.is h)
+      | in-Overlong w ↦ w.entry-is ∙ overlong_confirmed line bytes (subst (λ s. Holds line s bytes) w.in-Overlong.is h)
+    ]

@@ -1,21 +1,16 @@
 -- Each arm is a step of the line that the field holds.
-use Rattle.std.proofs.Common.{◌≡◌, false, eqb, Some, None, sym, refl, ap, ◌∙◌, subst, rules}
+use Rattle.std.proofs.Common.{◌≡◌, false, eqb, None, sym, refl, subst, rules}
 use Rattle.intake.specs.Field.{Holds, Scanned}
-use Rattle.intake.proofs.Fields.{filling_more, overlong_more, filling_confirmed, overlong_confirmed, confirmed}
+use Rattle.intake.proofs.Fields.{filling_more, overlong_more, confirmed}
 use Rattle.intake.proofs.field.Field.scan.Goals as goal
 
-pub returns-in-Filling-eq10 : goal.returns-in-Filling-eq10
-returns-in-Filling-eq10 c =
+pub returns-in_default-eq10 : goal.returns-in_default-eq10
+returns-in_default-eq10 c =
     record {
       same = c.confirm.ensures.same;
       step = λ line h.
-          confirmed line c.args.byte (Some c.confirm.result) c.confirm.new.self.state c.confirm.new.self.bytes.now
-          c.in-Filling-eq10.is-1
-          (ap Some c.confirm.ensures.line
-          ∙ filling_confirmed line c.in-Filling-eq10.n c.args.self.now.bytes.now
-          (subst (λ s. Holds line s c.args.self.now.bytes.now) c.in-Filling-eq10.is-0 h))
-          c.confirm.ensures.state
-          c.confirm.ensures.bytes;
+          confirmed line c.args.byte c.confirm.result c.confirm.new.self.state c.confirm.new.self.bytes.now
+          c.in_default-eq10.is-1 (c.confirm.ensures.line line h) c.confirm.ensures.state c.confirm.ensures.bytes;
     }
 
 pub returns-in-Filling-default : goal.returns-in-Filling-default
@@ -30,20 +25,6 @@ returns-in-Filling-default c =
           not-confirm not-cancel
           (subst (λ s. Holds line s c.args.self.now.bytes.now) c.in-Filling-default.is-0 h)
           c.add-in-Filling-default.ensures.state);
-    }
-
-pub returns-in-Overlong-eq10 : goal.returns-in-Overlong-eq10
-returns-in-Overlong-eq10 c =
-    record {
-      same = c.refuse.ensures.same;
-      step = λ line h.
-          confirmed line c.args.byte (Some c.refuse.result) c.refuse.new.self.state c.refuse.new.self.bytes.now
-          c.in-Overlong-eq10.is-1
-          (ap Some c.refuse.ensures.line
-          ∙ overlong_confirmed line c.args.self.now.bytes.now
-          (subst (λ s. Holds line s c.args.self.now.bytes.now) c.in-Overlong-eq10.is-0 h))
-          c.refuse.ensures.state
-          c.refuse.ensures.bytes;
     }
 
 pub returns-in-Overlong-default : goal.returns-in-Overlong-default
