@@ -1,5 +1,5 @@
 -- Lemmas on reading a register at rest: each refusal in its turn.
-use Rattle.std.proofs.Common.{◌≡◌, ℕ, ◌<◌, ◌≤◌, Bool, true, not, ltb, List, [], Ok, Err, Option, Result, sym, refl, ap, ◌∙◌, arith}
+use Rattle.std.proofs.Common.{◌≡◌, ℕ, ◌<◌, ◌≤◌, Bool, true, false, not, ltb, List, [], Ok, Err, is_ok, Option, Result, sym, refl, ap, ◌∙◌, arith}
 use Rattle.std.proofs.lemmas.Bool.{lt-ltb, le-ltb}
 use Rattle.fault.specs.Refusals.{offline, too_few_blocks}
 use Rattle.fault.specs.declared.Fault.{Fault}
@@ -26,8 +26,12 @@ module _ {X : Type 0} (code : ℕ) (read : List ℕ → Option X) (d : Disk) whe
   small_refused n e h = tests (lt-ltb _ _ (omega arith)) refl refl ∙ ap (λ m. Err (too_few_blocks m)) (sym e)
 
   module _ (n : ℕ) (count : n ≡ blocks d) (large : 78 ≤ n) where
-    pub offline_refused : (x : DeviceError) → Err x ≡ reading d 1 → at_rest code read d ≡ Err (offline 1)
-    offline_refused x e = tests (le-ltb _ _ (omega arith)) (reading_err d 1 x (omega arith) e).0 refl
+    pub offline_refused : is_ok (reading d 1) ≡ false → at_rest code read d ≡ Err (offline 1)
+    offline_refused lost = tests (le-ltb _ _ (omega arith)) (reading_off (reading d 1) refl lost) refl
+      where
+        reading_off : (r : Result Entry DeviceError) → r ≡ reading d 1 → is_ok r ≡ false → d.online ≡ false
+        reading_off (Ok e) is h = absurd (let z : true ≡ false = h in cc)
+        reading_off (Err x) is h = (reading_err d 1 x (omega arith) is).0
 
     module _ (e : Entry) (got : Ok e ≡ reading d 1) where
       is_online : d.online ≡ true

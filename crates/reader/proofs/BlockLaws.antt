@@ -1,5 +1,5 @@
 -- Lemmas on the blocks of a view.
-use Rattle.std.proofs.Common.{◌≡◌, ℕ, ◌+◌, ◌<◌, ◌≤◌, min, true, cond, eqb, List, length, get_or, drop, Ok, Err, Result, sym, ap, ◌∙◌, arith}
+use Rattle.std.proofs.Common.{◌≡◌, ℕ, ◌+◌, ◌<◌, ◌≤◌, min, true, false, cond, eqb, List, [], length, get_or, drop, Ok, is_ok, Result, sym, ap, ◌∙◌, subst}
 use Rattle.std.proofs.lemmas.List.{drop_all, drop_more}
 use Rattle.fault.specs.declared.Damage.TheVariants as damage
 use Rattle.fault.specs.declared.Fault.{Fault}
@@ -24,6 +24,13 @@ pub place_end :
     place_from b place image (drop i targets) ≡ all → place ≡ all
 place_end b place image targets i all h e = sym (ap (place_from b place image) (drop_all i targets h)) ∙ e
 
+-- what holds of a plain view holds of its device
+pub plain_is :
+    (P : Disk → ℕ → List ℕ → Type 0) {d d' : Disk} {first : ℕ} {targets : List ℕ} → d' ≡ d → (first ≡ 0) × (targets ≡ []) →
+    P d' first targets → P d 0 []
+plain_is P {d} {d'} {first} {targets} device own h =
+    subst (λ d. P d 0 []) device (subst (λ f. P d' f []) own.0 (subst (λ ts. P d' first ts) own.1 h))
+
 -- a block that was read
 pub view_reads :
     (d : Disk) (first : ℕ) (targets : List ℕ) (b p : ℕ) → p ≡ place_from b b first targets → Steady d first targets → b < 78 →
@@ -41,12 +48,12 @@ view_answers d first targets b p e r at got is s h =
     ok_is x y q = cc
 
 pub view_fails :
-    (d : Disk) (first : ℕ) (targets : List ℕ) (b p : ℕ) (x : DeviceError) (r : Result (List ℕ) Fault) → p ≡ place_from b b first targets →
-    Err x ≡ reading d p → BlockRead d first targets b r
-view_fails d first targets b p x r at got s h = absurd (not_both (got ∙ view_reads d first targets b p at s h))
+    (d : Disk) (first : ℕ) (targets : List ℕ) (b p : ℕ) (r : Result (List ℕ) Fault) → p ≡ place_from b b first targets →
+    is_ok (reading d p) ≡ false → BlockRead d first targets b r
+view_fails d first targets b p r at lost s h = absurd (not_both (sym (ap is_ok (view_reads d first targets b p at s h)) ∙ lost))
   where
-    not_both : {y : Entry} → ◌≡◌ {A = Result Entry DeviceError} (Err x) (Ok y) → ⊥
-    not_both q = let z : ◌≡◌ {A = ℕ} 0 1 = cc in omega arith
+    not_both : true ≡ false → ⊥
+    not_both q = cc
 
 pub whole_bytes :
     (e : Entry) (xs : List ℕ) (b : ℕ) → e ≡ Bytes xs → is_block xs ≡ true →

@@ -18,13 +18,7 @@ pub fn read_at_rest<K: Kind, D: Device>(device: &D) -> Result<Found, Fault>
     if count < BLOCKS {
         return Err(Fault::too_few_blocks(count));
     }
-    let Ok(header) = device.read(1) else {
-        return Err(Fault::offline(1));
-    };
+    let header = device.read(1).map_err(|_| Fault::offline(1))?;
     Header::read(&header).require_free()?;
-    read_through::<K, D>(&View {
-        device,
-        first: 0,
-        targets: &[],
-    })
+    read_through::<K, D>(&View::plain(device))
 }

@@ -1,4 +1,4 @@
-ghost use Rattle.std.specs.Prelude.{◌≡◌, cond};
+ghost use Rattle.std.specs.Prelude.{◌≡◌, [], cond};
 ghost use Rattle.fault.specs.declared.Damage.TheVariants as damage;
 ghost use Rattle.layout.specs.Reading.{unless_fault, unless, readable, bytes_of};
 ghost use Rattle.plans.specs.Views.{place_from};
@@ -17,14 +17,27 @@ pub struct View<'a, D> {
 }
 
 impl<'a, D: Device> View<'a, D> {
+    // The device as it is, with no after-images.
+    pub fn plain(device: &'a D) -> View<'a, D>
+        ensures device { result.device.now ≡ device.now }
+        ensures own { (result.first ≡ 0) × (result.targets.now ≡ []) }
+    {
+        View {
+            device,
+            first: 0,
+            targets: &[],
+        }
+    }
+
     // The bytes of a block. A fault names the block itself, not its after-image.
     pub fn bytes(&self, block: u16) -> Result<[u8; 512], Fault>
         ensures { BlockRead (D.Device.meaning self.now.device.now) self.now.first self.now.targets.now block result }
     {
-        match self.device.read(self.place(block)) {
-            Ok(entry) => whole(entry, block),
-            Err(_) => Err(Fault::offline(block)),
-        }
+        let entry = self
+            .device
+            .read(self.place(block))
+            .map_err(|_| Fault::offline(block))?;
+        whole(entry, block)
     }
 
     // Where the block is read: at the last after-image that is its own, or at itself.
