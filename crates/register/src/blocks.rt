@@ -13,10 +13,5 @@ use reader::View;
 pub(crate) fn read_block<K: Kind, D: Device>(device: &D, block: u16) -> Result<[u8; 512], Fault>
     ensures { (s : Reservoir K) → Rested K.Kind.code K.Kind.form (D.Device.meaning device.now) s → Laid block → result ≡ Ok (content K.Kind.code K.Kind.form s block) }
 {
-    let view = View {
-        device,
-        first: 0,
-        targets: &[],
-    };
-    view.bytes(block)
+    View::plain(device).bytes(block)
 }

@@ -8,7 +8,7 @@ mod reporting;
 mod stores;
 mod takes;
 
-pub use comparing::{Side, SideFault, same};
+pub use comparing::{SideFault, same};
 pub use reporting::report;
 pub use stores::store;
 pub use takes::take;
