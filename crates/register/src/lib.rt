@@ -1,10 +1,10 @@
 // The calls on a register at rest: Store, Take, Report and Same, on any device and for any kind of item.
 #![tactic(auto)]
 
-mod blocks;
 mod commits;
 mod comparing;
 mod reporting;
+mod resting;
 mod stores;
 mod takes;
 
