@@ -9,7 +9,7 @@ use fault::Fault;
 use intake::Entry;
 use items::{Label, WardBox};
 use lines::Transaction;
-use register::{Side, SideFault, same};
+use register::{SideFault, same};
 use session::{Reply, resume};
 use startup::{make, open};
 use std::io::{BufWriter, Write};
@@ -68,13 +68,8 @@ pub(crate) fn compare(rt: &HostRuntime, left: &str, right: &str, kind: &str) -> 
     match same_images(kind, left_bytes.as_mut_slice(), right_bytes.as_mut_slice()) {
         Ok(true) => println!(rt; "same")?,
         Ok(false) => println!(rt; "different")?,
-        Err(refusal) => {
-            let path = match refusal.side {
-                Side::Left => left,
-                Side::Right => right,
-            };
-            return refused(rt, path, &refusal.fault);
-        }
+        Err(SideFault::Left(fault)) => return refused(rt, left, &fault),
+        Err(SideFault::Right(fault)) => return refused(rt, right, &fault),
     }
     Ok(())
 }
