@@ -2,7 +2,7 @@ ghost use Rattle.std.specs.Prelude.{◌≡◌};
 ghost use Rattle.journal.specs.Writes.{Runs};
 ghost use Rattle.journal.specs.declared.headers.Header.TheVariants as header;
 ghost use Rattle.plans.specs.Calls.{PerformsOnline};
-ghost use Rattle.plans.specs.Plans.{too_small, answering, open_answer, open_plan, used_by, finished_call};
+ghost use Rattle.plans.specs.Plans.{too_small, answering, open_answer, open_plan, used_by};
 ghost use Rattle.startup.specs.Opens.{writes_of, Found, FoundBy, CountsRead, RestRead, ImageRead, ChangesRead, agrees_with};
 
 use crate::start::start;
@@ -14,7 +14,7 @@ use pairing::Counts;
 use plans::{Finished, Opened};
 use reader::{View, read_header, read_through};
 
-// What Open has to write.
+// What Open has to write: three cases, which an Option of an Option would not name.
 #[derive(Clone, Copy)]
 enum Task {
     Nothing,
@@ -100,7 +100,7 @@ fn find_pending<K: Kind, D: Device>(device: &D, pending: Pending) -> Result<Find
         task: Task::Replay(changes),
         opened: Opened {
             counts,
-            finished: Some(finished(&pending)),
+            finished: Some(Finished::from(pending)),
         },
     })
 }
@@ -129,6 +129,7 @@ fn read_changes<D: Device>(device: &D, targets: &[u16; 4]) -> Result<[Write; 4],
     ensures { ChangesRead (D.Device.meaning device.now) targets.now result }
 {
     let [first, second, third, fourth] = *targets;
+    // written out: the `map` of an array cannot stop at a fault
     Ok([
         read_image(device, 2, first)?,
         read_image(device, 3, second)?,
@@ -163,16 +164,5 @@ fn words_used(call: PendingCall) -> u8
     match call {
         PendingCall::Store { used, .. } => used,
         PendingCall::Take => 0,
-    }
-}
-
-// The pending call, as it is answered.
-fn finished(pending: &Pending) -> Finished
-    ensures { result ≡ finished_call pending.now.call pending.now.number }
-{
-    let number = pending.number;
-    match pending.call {
-        PendingCall::Store { draw, .. } => Finished::Store { number, draw },
-        PendingCall::Take => Finished::Take { number },
     }
 }
