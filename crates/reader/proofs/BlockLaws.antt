@@ -1,6 +1,5 @@
 -- Lemmas on the blocks of a view.
-use Rattle.std.proofs.Common.{◌≡◌, ℕ, ◌+◌, ◌<◌, ◌≤◌, min, true, false, cond, eqb, List, [], length, get_or, drop, Ok, is_ok, Result, sym, ap, ◌∙◌, subst}
-use Rattle.std.proofs.lemmas.List.{drop_all, drop_more}
+use Rattle.std.proofs.Common.{◌≡◌, ℕ, ◌<◌, true, false, List, [], Ok, is_ok, Result, sym, ap, ◌∙◌, subst}
 use Rattle.fault.specs.declared.Damage.TheVariants as damage
 use Rattle.fault.specs.declared.Fault.{Fault}
 use Rattle.device.specs.Disk.{Disk, reading}
@@ -11,18 +10,6 @@ use Rattle.device.proofs.Disk.{reading_online}
 use Rattle.layout.specs.Reading.{unless_fault, bytes_of, is_block, readable, unless}
 use Rattle.plans.specs.Views.{place_from, viewed}
 use Rattle.reader.specs.Reads.{Steady, BlockRead}
-
--- the loop over the targets: a turn, and the end
-pub place_turn :
-    (b place image : ℕ) (targets : List ℕ) (i all : ℕ) → i < length targets →
-    place_from b place image (drop i targets) ≡ all →
-    place_from b (cond (eqb (get_or targets i 0) b) image place) (min (image + 1) 65535) (drop (i + 1) targets) ≡ all
-place_turn b place image targets i all h e = sym (ap (place_from b place image) (drop_more targets i 0 h)) ∙ e
-
-pub place_end :
-    (b place image : ℕ) (targets : List ℕ) (i all : ℕ) → length targets ≤ i →
-    place_from b place image (drop i targets) ≡ all → place ≡ all
-place_end b place image targets i all h e = sym (ap (place_from b place image) (drop_all i targets h)) ∙ e
 
 -- what holds of a plain view holds of its device
 pub plain_is :

@@ -1,4 +1,4 @@
-ghost use Rattle.std.specs.Prelude.{◌≡◌, [], cond};
+ghost use Rattle.std.specs.Prelude.{◌≡◌, ◌+◌, [], min};
 ghost use Rattle.fault.specs.declared.Damage.TheVariants as damage;
 ghost use Rattle.layout.specs.Reading.{unless_fault, unless, readable, bytes_of};
 ghost use Rattle.plans.specs.Views.{place_from};
@@ -44,20 +44,20 @@ impl<'a, D: Device> View<'a, D> {
     fn place(&self, block: u16) -> u16
         ensures { result ≡ place_from block block self.now.first self.now.targets.now }
     {
-        let mut place = block;
-        let mut image = self.first;
-        for target in self.targets {
-            place = chosen(*target == block, image, place);
-            image = image.saturating_add(1);
+        match self.targets.iter().rposition(|target| *target == block) {
+            Some(i) => self.image(i),
+            None => block,
         }
-        place
     }
-}
 
-fn chosen(is_own: bool, image: u16, place: u16) -> u16
-    ensures { result ≡ cond is_own image place }
-{
-    if is_own { image } else { place }
+    // The block of the i-th after-image, 65,535 at the end.
+    fn image(&self, i: usize) -> u16
+        ensures first { i ≡ 0 → result ≡ self.now.first }
+        ensures later { result ≡ min (self.now.first + i) 65535 }
+    {
+        self.first
+            .saturating_add(u16::try_from(i).unwrap_or(u16::MAX))
+    }
 }
 
 // The bytes of the block with this entry.
