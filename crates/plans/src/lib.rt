@@ -1,9 +1,12 @@
 // The calls on a register as plans: what each finds, answers and writes, and what a power failure at any write leaves.
 #![tactic(auto)]
 
+ghost use Rattle.std.specs.Prelude.{◌≡◌};
+ghost use Rattle.plans.specs.Plans.{finished_call};
 ghost use Rattle.plans.specs.Recovery.{Recovers, Makes};
 
 use items::Kind;
+use journal::{Pending, PendingCall};
 use pairing::Counts;
 
 // The blocks of a register.
@@ -14,6 +17,18 @@ pub const BLOCKS: u16 = 78;
 pub enum Finished {
     Store { number: u16, draw: u16 },
     Take { number: u16 },
+}
+
+impl From<Pending> for Finished {
+    ghost from_gives = { λ p f. f ≡ finished_call p.call p.number };
+
+    fn from(pending: Pending) -> Finished {
+        let number = pending.number;
+        match pending.call {
+            PendingCall::Store { draw, .. } => Finished::Store { number, draw },
+            PendingCall::Take => Finished::Take { number },
+        }
+    }
 }
 
 // What Open answers.

@@ -1,6 +1,5 @@
 -- Lemmas on the blocks of a view.
-use Rattle.std.proofs.Common.{◌≡◌, ℕ, ◌+◌, ◌<◌, ◌≤◌, min, true, cond, eqb, List, length, get_or, drop, Ok, Err, Result, sym, ap, ◌∙◌, arith, Some}
-use Rattle.std.proofs.lemmas.List.{drop_all, drop_more}
+use Rattle.std.proofs.Common.{◌≡◌, ℕ, ◌<◌, true, false, List, [], Ok, is_ok, Result, sym, ap, ◌∙◌, subst, Some}
 use Rattle.fault.specs.declared.Damage.TheVariants as damage
 use Rattle.fault.specs.declared.Fault.{Fault}
 use Rattle.device.specs.Disk.{Entry, Disk, reading}
@@ -10,17 +9,12 @@ use Rattle.layout.specs.Reading.{unless_fault, bytes_of, is_block, readable, unl
 use Rattle.plans.specs.Views.{place_from, viewed}
 use Rattle.reader.specs.Reads.{Steady, BlockRead}
 
--- the loop over the targets: a turn, and the end
-pub place_turn :
-    (b place image : ℕ) (targets : List ℕ) (i all : ℕ) → i < length targets →
-    place_from b place image (drop i targets) ≡ all →
-    place_from b (cond (eqb (get_or targets i 0) b) image place) (min (image + 1) 65535) (drop (i + 1) targets) ≡ all
-place_turn b place image targets i all h e = sym (ap (place_from b place image) (drop_more targets i 0 h)) ∙ e
-
-pub place_end :
-    (b place image : ℕ) (targets : List ℕ) (i all : ℕ) → length targets ≤ i →
-    place_from b place image (drop i targets) ≡ all → place ≡ all
-place_end b place image targets i all h e = sym (ap (place_from b place image) (drop_all i targets h)) ∙ e
+-- what holds of a plain view holds of its device
+pub plain_is :
+    (P : Disk → ℕ → List ℕ → Type 0) {d d' : Disk} {first : ℕ} {targets : List ℕ} → d' ≡ d → (first ≡ 0) × (targets ≡ []) →
+    P d' first targets → P d 0 []
+plain_is P {d} {d'} {first} {targets} device own h =
+    subst (λ d. P d 0 []) device (subst (λ f. P d' f []) own.0 (subst (λ ts. P d' first ts) own.1 h))
 
 -- a block that was read
 pub view_reads :
@@ -39,12 +33,12 @@ view_answers d first targets b p e r at got is s h =
     ok_is x y q = cc
 
 pub view_fails :
-    (d : Disk) (first : ℕ) (targets : List ℕ) (b p : ℕ) (x : DeviceError) (r : Result (List ℕ) Fault) → p ≡ place_from b b first targets →
-    Err x ≡ reading d p → BlockRead d first targets b r
-view_fails d first targets b p x r at got s h = absurd (not_both (got ∙ view_reads d first targets b p at s h))
+    (d : Disk) (first : ℕ) (targets : List ℕ) (b p : ℕ) (r : Result (List ℕ) Fault) → p ≡ place_from b b first targets →
+    is_ok (reading d p) ≡ false → BlockRead d first targets b r
+view_fails d first targets b p r at lost s h = absurd (not_both (sym (ap is_ok (view_reads d first targets b p at s h)) ∙ lost))
   where
-    not_both : {y : Entry} → ◌≡◌ {A = Result Entry DeviceError} (Err x) (Ok y) → ⊥
-    not_both q = let z : ◌≡◌ {A = ℕ} 0 1 = cc in omega arith
+    not_both : true ≡ false → ⊥
+    not_both q = cc
 
 pub whole_bytes :
     (e : Entry) (xs : List ℕ) (b : ℕ) → e ≡ Some xs → is_block xs ≡ true →

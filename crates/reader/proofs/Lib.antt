@@ -1,5 +1,6 @@
 pub mod AtRest
 pub mod BlockLaws
+pub mod LastPlaces
 pub mod Rests
 pub mod SlotScans
 pub mod StockScans

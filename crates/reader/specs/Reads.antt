@@ -2,11 +2,14 @@
 -- Assumes nothing.
 use Rattle.std.specs.Prelude.{◌≡◌, ℕ, ◌<◌, ◌≤◌, min, true, ◌&&◌, List, map, length, take, Some, None, Ok, Err, Option, Result, MatchResult, ◌==◌, slice_index}
 use Rattle.std.specs.Result.{result_map_both}
+use Rattle.fault.specs.Refusals.{offline}
 use Rattle.fault.specs.declared.Fault.{Fault}
-use Rattle.device.specs.Disk.{Entry, Disk, blocks}
+use Rattle.device.specs.Disk.{Entry, Disk, blocks, reading}
 use Rattle.pairing.specs.Reservoir.{Reservoir}
 use Rattle.pairing.specs.Rules.{occurs}
 use Rattle.pairing.specs.Steps.{counts_of}
+use Rattle.journal.specs.Header.{header_of}
+use Rattle.journal.specs.declared.headers.Header.{Header}
 use Rattle.layout.specs.Reading.{unless_fault, block_fault, bytes_of, first_of, slots_fault, left_at, number_in, in_set, stock_in}
 use Rattle.layout.specs.declared.packs.PackSet.{PackSet}
 use Rattle.plans.specs.Views.{place_from, viewed}
@@ -17,6 +20,10 @@ use Rattle.reader.specs.declared.slots.Sampled.{Sampled}
 pub record Steady (d : Disk) (first : ℕ) (targets : List ℕ) : Type 0 where
   pub online : d.online ≡ true
   pub inside : (b : ℕ) → b < 78 → place_from b b first targets < blocks d
+
+-- the journal header was read
+abbrev pub HeaderRead : Disk → Result Header Fault → Type 0
+HeaderRead d r = r ≡ result_map_both header_of (λ _. offline 1) (reading d 1)
 
 -- a block of the view: its bytes, or that it is unreadable
 abbrev pub BlockRead : Disk → ℕ → List ℕ → ℕ → Result (List ℕ) Fault → Type 0

@@ -8,7 +8,7 @@ mod view;
 
 use layout::PackSet;
 use pairing::Counters;
-pub use rest::read_at_rest;
+pub use rest::{read_at_rest, read_header, require_blocks};
 pub use slots::Sampled;
 pub use through::read_through;
 pub use view::View;

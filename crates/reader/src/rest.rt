@@ -1,5 +1,7 @@
-ghost use Rattle.plans.specs.Plans.{at_rest};
-ghost use Rattle.reader.specs.Reads.{ReadAs};
+ghost use Rattle.std.specs.Prelude.{◌≡◌};
+ghost use Rattle.layout.specs.Reading.{unless_fault};
+ghost use Rattle.plans.specs.Plans.{at_rest, too_small};
+ghost use Rattle.reader.specs.Reads.{HeaderRead, ReadAs};
 
 use crate::Found;
 use crate::through::read_through;
@@ -10,21 +12,30 @@ use items::Kind;
 use journal::Header;
 use plans::BLOCKS;
 
-// Reads a register at rest: refused where the device is too small or offline, or the journal header is not free.
-pub fn read_at_rest<K: Kind, D: Device>(device: &D) -> Result<Found, Fault>
-    ensures { ReadAs (at_rest K.Kind.code K.Kind.reading (D.Device.meaning device.now)) result }
+// Refuses a device that is too small for a register.
+pub fn require_blocks<D: Device>(device: &D) -> Result<(), Fault>
+    ensures { result ≡ unless_fault (too_small (D.Device.meaning device.now)) tt }
 {
     let count = device.count();
     if count < BLOCKS {
         return Err(Fault::too_few_blocks(count));
     }
-    let Ok(header) = device.read(1) else {
-        return Err(Fault::offline(1));
-    };
-    Header::read(&header).require_free()?;
-    read_through::<K, D>(&View {
-        device,
-        first: 0,
-        targets: &[],
-    })
+    Ok(())
+}
+
+// Reads the journal header.
+pub fn read_header<D: Device>(device: &D) -> Result<Header, Fault>
+    ensures { HeaderRead (D.Device.meaning device.now) result }
+{
+    let entry = device.read(1).map_err(|_| Fault::offline(1))?;
+    Ok(Header::read(&entry))
+}
+
+// Reads a register at rest: refused where the device is too small or offline, or the journal header is not free.
+pub fn read_at_rest<K: Kind, D: Device>(device: &D) -> Result<Found, Fault>
+    ensures { ReadAs (at_rest K.Kind.code K.Kind.reading (D.Device.meaning device.now)) result }
+{
+    require_blocks(device)?;
+    read_header(device)?.require_free()?;
+    read_through::<K, D>(&View::plain(device))
 }

@@ -1,7 +1,8 @@
 -- What was read of two registers decides whether they have the same packs.
 -- Assumes nothing.
-use Rattle.std.proofs.Common.{◌≡◌, ℕ, zero, suc, ◌≤◌, Bool, true, false, not, ◌&&◌, eqb, ltb, List, Ok, Err, Decides, Option, Result, sym, refl, ap, ◌∙◌, subst, arith}
+use Rattle.std.proofs.Common.{◌≡◌, ℕ, zero, suc, ◌≤◌, Bool, true, false, not, ◌&&◌, eqb, ltb, List, Ok, Err, is_ok, Decides, IsErrAnd, MatchResult, Option, Result, sym, refl, ap, ◌∙◌, subst, arith}
 use Rattle.std.proofs.lemmas.Bool.Decides.{Decides-like}
+use Rattle.std.proofs.lemmas.Result.{err_from_is_err_and}
 use Rattle.std.proofs.lemmas.Bool.{ne_eqb, lt-ltb, ltb-true}
 use Rattle.fault.specs.Refusals.{offline, too_few_blocks}
 use Rattle.fault.specs.declared.Fault.{Fault}
@@ -12,11 +13,11 @@ use Rattle.journal.specs.Header.{header_of, free_or_refused}
 use Rattle.layout.specs.Laws.{ReadsExactly}
 use Rattle.layout.specs.Reading.{decode}
 use Rattle.plans.specs.Plans.{at_rest, and_then, refused_if}
-use Rattle.reader.specs.Reads.{Finds}
+use Rattle.reader.specs.Reads.{Finds, ReadAs}
 use Rattle.reader.specs.declared.Found.{Found}
-use Rattle.register.specs.declared.comparing.Side.TheVariants.{Left, Right}
 use Rattle.register.specs.declared.comparing.SideFault.{SideFault}
-use Rattle.register.specs.Same.{SamePacks, SameFound, on_side, Compared, refused_left, refused_right}
+use Rattle.register.specs.declared.comparing.SideFault.TheVariants.{Left, Right}
+use Rattle.register.specs.Same.{SamePacks, SameFound, Compared, refused_left, refused_right}
 
 -- ---- a register at rest is read off its blocks
 
@@ -95,11 +96,28 @@ module _ {X : Type 0} (f g : Found) {a b : Reservoir X} (finds : Finds f a) (oth
     pub decides_packs : (t : Bool) → Decides t (SameFound f g) → Decides t (SamePacks a b)
     decides_packs t h = Decides-like t same_packs same_found h
 
--- ---- the refusals
+-- ---- the answers: what was read, with the side told of a refusal
 
-module _ {X : Type 0} {l r : Result (Reservoir X) Fault} {e : SideFault} {f : Fault} where
-  pub refused_left_lem : e ≡ on_side Left f → l ≡ Err f → Compared l r (Err e)
-  refused_left_lem is h = subst (λ e. Compared l r (Err e)) (sym is) (refused_left h)
+module _ {X : Type 0} (side : Fault → SideFault) (l : Result (Reservoir X) Fault) (r : Result Found Fault) (m : Result Found SideFault)
+    (read : ReadAs l r) (told : MatchResult r (λ x. m ≡ Ok x) (λ f. IsErrAnd m (λ e. e ≡ side f))) where
+  pub side_read : (x : Found) → m ≡ Ok x → (s : Reservoir X) × (l ≡ Ok s) × Finds x s
+  side_read x is = go r read told
+    where
+      go : (r : Result Found Fault) → ReadAs l r → MatchResult r (λ x. m ≡ Ok x) (λ f. IsErrAnd m (λ e. e ≡ side f)) → (s : Reservoir X) × (l ≡ Ok s) × Finds x s
+      go (Ok y) read told = subst (λ z. ReadAs l (Ok z)) (let same : y ≡ x = let e = sym told ∙ is in cc in same) read
+      go (Err f) read told = absurd (subst (λ m. IsErrAnd m (λ e. e ≡ side f)) is told)
 
-  pub refused_right_lem : {a : Reservoir X} → e ≡ on_side Right f → l ≡ Ok a → r ≡ Err f → Compared l r (Err e)
-  refused_right_lem is h k = subst (λ e. Compared l r (Err e)) (sym is) (refused_right h k)
+  pub side_refused : (e : SideFault) → m ≡ Err e → (f : Fault) × (l ≡ Err f) × (e ≡ side f)
+  side_refused e is = go r read told
+    where
+      go : (r : Result Found Fault) → ReadAs l r → MatchResult r (λ x. m ≡ Ok x) (λ f. IsErrAnd m (λ e. e ≡ side f)) → (f : Fault) × (l ≡ Err f) × (e ≡ side f)
+      go (Ok y) read told = absurd (let z : true ≡ false = sym (ap is_ok told) ∙ ap is_ok is in cc)
+      go (Err f) read told = (f, read, subst (λ m. IsErrAnd m (λ e. e ≡ side f)) is told)
+
+module _ {X : Type 0} {l r : Result (Reservoir X) Fault} {a : Result Bool SideFault} {e : SideFault} where
+  pub refused_left_lem : IsErrAnd a (λ x. x ≡ e) → (f : Fault) × (l ≡ Err f) × (e ≡ Left f) → Compared l r a
+  refused_left_lem at h = let p = err_from_is_err_and a at in subst (Compared l r) (sym (p.1 ∙ ap Err (p.2 ∙ h.2))) (refused_left h.1)
+
+  pub refused_right_lem :
+      {x : Reservoir X} → IsErrAnd a (λ x. x ≡ e) → l ≡ Ok x → (f : Fault) × (r ≡ Err f) × (e ≡ Right f) → Compared l r a
+  refused_right_lem at is h = let p = err_from_is_err_and a at in subst (Compared l r) (sym (p.1 ∙ ap Err (p.2 ∙ h.2))) (refused_right is h.1)

@@ -1,6 +1,6 @@
 -- The blocks of a register that was read, and what the reading tells of it.
 -- Assumes nothing.
-use Rattle.std.proofs.Common.{◌≡◌, ℕ, ◌<◌, ◌≤◌, Bool, true, false, not, ltb, List, [], length, Ok, Err, Option, Result, refl, ◌∙◌, inl, inr, arith}
+use Rattle.std.proofs.Common.{◌≡◌, ℕ, ◌<◌, ◌≤◌, Bool, true, false, not, ltb, List, [], length, Ok, Err, is_ok, Option, Result, refl, ◌∙◌, inl, inr, arith}
 use Rattle.std.proofs.lemmas.Bool.{ltb-false}
 use Rattle.fault.specs.Refusals.{offline, too_few_blocks}
 use Rattle.fault.specs.declared.Fault.{Fault}
@@ -16,13 +16,13 @@ use Rattle.plans.specs.Plans.{and_then, refused_if, at_rest, slot_block_of}
 use Rattle.plans.proofs.Contents.{content_is_block}
 use Rattle.plans.proofs.Standing.{err_ok}
 use Rattle.reader.specs.Reads.{BlockRead}
-use Rattle.register.specs.Rested.{Rested}
+use Rattle.register.specs.Rested.{Rested, held, resting}
 
 pub ok_is : {A : Type 0} {x y : A} → ◌≡◌ {A = Result A Fault} (Ok x) (Ok y) → x ≡ y
 ok_is h = cc
 
-pub slot_laid : (i : ℕ) → i < 512 → Laid (slot_block_of i)
-slot_laid i h = inr (omega arith, omega arith)
+pub slot_laid : (b i : ℕ) → b ≡ slot_block_of i → i < 512 → Laid b
+slot_laid b i is h = inr (omega (arith, is), omega (arith, is))
 
 pub few_slots : {X : Type 0} (r : Reservoir X) → Storable r → length r.slots ≤ 512
 few_slots r s = let l = s.lawful.ranges in omega (arith, l.limits.1, l.sample.0)
@@ -60,3 +60,12 @@ module _ {X : Type 0} (code : ℕ) (form : X → List ℕ) (reading : List ℕ �
       let many = ltb-false (blocks d) 78 p.0 in
       let e = exactly (entry_at d) r p.2 in
       record { steady = record { online = p.1; inside = λ b l. omega arith }; storable = e.0; holds = e.1 }
+
+-- where a register is at rest, that is what is held
+pub rests_is : {X : Type 0} (a : Result (Reservoir X) Fault) → is_ok a ≡ true → a ≡ Ok (held a)
+rests_is (Ok r) h = refl
+rests_is (Err f) h = absurd (let z : false ≡ true = h in cc)
+
+module _ {X : Type 0} (code : ℕ) (form : X → List ℕ) (reading : List ℕ → Option X) (exactly : ReadsExactly code form reading) (d : Disk) where
+  pub rested_held : is_ok (at_rest code reading d) ≡ true → Rested code form d (resting code reading d)
+  rested_held h = rested code form reading exactly d (resting code reading d) (rests_is (at_rest code reading d) h)

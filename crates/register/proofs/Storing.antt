@@ -1,9 +1,7 @@
 -- A store that can be made: its step, its changes, and the plan that they make.
 -- Assumes nothing.
-use Rattle.std.proofs.Common.{◌≡◌, ℕ, ◌/◌, ◌<◌, ◌≤◌, true, ltb, List, [], ◌∷◌, length, Ok, Err, Option, Result, sym, ap, ◌∙◌, subst, inr, arith, Some}
+use Rattle.std.proofs.Common.{◌≡◌, ℕ, ◌/◌, ◌<◌, ◌≤◌, List, [], ◌∷◌, length, Ok, Err, Option, Result, sym, ap, ◌∙◌, subst, inr, arith}
 use Rattle.fault.specs.declared.Fault.{Fault}
-use Rattle.device.specs.Disk.{Disk, entry_at}
-use Rattle.octets.specs.Zeros.{every}
 use Rattle.words.specs.declared.draws.Drawn.{Drawn}
 use Rattle.pairing.specs.Reservoir.{Reservoir, store, width, with}
 use Rattle.pairing.specs.Steps.{counts_of, width_at, filled_at, after_store, CanCall}
@@ -17,14 +15,12 @@ use Rattle.journal.specs.Writes.{write_at, commit_writes}
 use Rattle.journal.specs.declared.Write.{Write}
 use Rattle.journal.specs.declared.headers.Pending.{Pending}
 use Rattle.journal.specs.declared.headers.PendingCall.TheVariants as pending
-use Rattle.layout.specs.Layout.{head_of, stock_block, slot_bytes, content}
-use Rattle.layout.specs.Reading.{unless_fault, block_fault, bytes_of, in_set}
-use Rattle.layout.proofs.Faults.{block_reads}
+use Rattle.layout.specs.Laws.{Storable}
+use Rattle.layout.specs.Layout.{Laid, head_of, stock_block, slot_bytes, content}
+use Rattle.layout.specs.Reading.{in_set}
 use Rattle.plans.specs.Plans.{StoreAnswer, and_then, store_block, stock_block_of, filled_slot, storing}
-use Rattle.plans.proofs.Contents.{content_is_block}
-use Rattle.reader.specs.Reads.{Steady, Finds}
+use Rattle.reader.specs.Reads.{Finds}
 use Rattle.reader.specs.declared.Found.{Found}
-use Rattle.register.specs.Rested.{Rested}
 use Rattle.register.specs.Stores.{slotted, draw_at, Stepped, Accepts, drawn_plan}
 use Rattle.register.proofs.StoreContents.{store_block_low, store_block_high, head_after, stock_after_lem, slots_after_lem}
 
@@ -35,7 +31,7 @@ some_width (fills none free) = omega arith
 some_width (replaces none full low) = omega arith
 some_width (passes none full high) = omega arith
 
-module _ {X : Type 0} (code : ℕ) (form : X → List ℕ) (d : Disk) (f : Found) (r : Reservoir X) (rested : Rested code form d r)
+module _ {X : Type 0} (code : ℕ) (form : X → List ℕ) (f : Found) (r : Reservoir X) (storable : Storable r)
     (finds : Finds f r) (number : ℕ) (accepts : Accepts r number) (item : X) where
   abbrev n : Counts
   n = f.counters.counts
@@ -49,7 +45,7 @@ module _ {X : Type 0} (code : ℕ) (form : X → List ℕ) (d : Disk) (f : Found
       drawn_plan code form r number item words ≡ Err x
   undrawn words x told =
       let fits : width r ≤ 32768 =
-      ((possible X).store_possible r rested.storable.lawful number (record { value = 0; used = 0 }) accepts.early accepts.low
+      ((possible X).store_possible r storable.lawful number (record { value = 0; used = 0 }) accepts.early accepts.low
       accepts.outside (some_width (way r.capacity r.size r.c1 r.c2 0)) (omega arith)).1 in
       ap (λ a. and_then a (λ z. Ok (storing code form r number item z))) (
       ap (draw_at words) (sym same) ∙ told (subst CanCall (sym same) accepts.early) (subst (λ m. width_at m ≤ 32768) (sym same) fits))
@@ -66,26 +62,17 @@ module _ {X : Type 0} (code : ℕ) (form : X → List ℕ) (d : Disk) (f : Found
     filled before e = ap (λ m. filled_at m drawn.value) (e ∙ same) ∙ sym ((follow X).slot_follows r drawn.value)
 
     pub slot_changed :
-        (sized : (x : X) → length (form x) ≡ 60) → ((x : X) → every (λ b. ltb b 256) (form x) ≡ true) → (before : Counts) → before ≡ n →
-        (o : Option ℕ) (new : List ℕ) (a : Result Write Fault) → o ≡ filled_at before drawn.value →
-        new ≡ slot_bytes form (record { number = number; item = item }) →
-        (Steady d 0 [] → store_block o < 78 →
-        a ≡ unless_fault (block_fault (entry_at d) (store_block o)) (write_at (store_block o) (slotted (bytes_of (entry_at d (store_block o))) o new))) →
+        (sized : (x : X) → length (form x) ≡ 60) → (before : Counts) → before ≡ n → (o : Option ℕ) (new : List ℕ) (a : Result Write Fault) →
+        o ≡ filled_at before drawn.value → new ≡ slot_bytes form (record { number = number; item = item }) →
+        (Laid (store_block o) → a ≡ Ok (write_at (store_block o) (slotted (content code form r (store_block o)) o new))) →
         a ≡ Ok (write_at target (content code form next target))
-    slot_changed sized bounded before from o new a e bytes told =
-        let lawful = rested.storable.lawful in
+    slot_changed sized before from o new a e bytes told =
+        let lawful = storable.lawful in
         let is : o ≡ filled_slot r drawn = e ∙ filled before from in
         let low = store_block_low r lawful drawn in
-        let there : entry_at d target ≡ Some (content code form r target) =
-        rested.holds target (inr (omega (arith, store_block_high (filled_slot r drawn)), omega (arith, low))) in
-        let none = block_reads (entry_at d) target (content code form r target) there (content_is_block code form sized bounded r target) in
-        told rested.steady (subst (λ z. store_block z < 78) (sym is) low)
-        ∙ (λ i.
-        unless_fault (block_fault (entry_at d) (store_block (is i)))
-        (write_at (store_block (is i)) (slotted (bytes_of (entry_at d (store_block (is i)))) (is i) (bytes i))))
-        ∙ (λ i.
-        unless_fault (none i)
-        (write_at target (slotted (bytes_of (there i)) (filled_slot r drawn) (slot_bytes form (record { number = number; item = item })))))
+        let laid : Laid target = inr (omega (arith, store_block_high (filled_slot r drawn)), omega (arith, low)) in
+        told (subst (λ z. Laid (store_block z)) (sym is) laid)
+        ∙ (λ i. Ok (write_at (store_block (is i)) (slotted (content code form r (store_block (is i))) (is i) (bytes i))))
         ∙ ap (λ xs. Ok (write_at target xs)) (slots_after_lem code form sized r lawful number item drawn)
 
     -- the plan, where these are the step, the answer, the header and the changes

@@ -1,6 +1,6 @@
 -- A take that can be made: its answer and its commit are those of the plan.
 -- Assumes nothing.
-use Rattle.std.proofs.Common.{◌≡◌, ℕ, ◌+◌, ◌-◌, ◌/◌, ◌<◌, not, ◌&&◌, eqb, List, [], ◌∷◌, map, length, get_or, take, is_some, Some, None, Ok, Option, Result, sym, refl, ap, ◌∙◌, subst}
+use Rattle.std.proofs.Common.{◌≡◌, ℕ, ◌+◌, ◌-◌, ◌/◌, ◌<◌, Bool, not, ◌&&◌, eqb, List, [], ◌∷◌, map, length, get_or, take, is_some, Some, None, Ok, Option, Result, sym, refl, ap, ◌∙◌, subst, position}
 use Rattle.fault.specs.declared.Fault.{Fault}
 use Rattle.pairing.specs.Reservoir.{Reservoir, taken, slot_of, without}
 use Rattle.pairing.specs.Rules.{CanTake, after_take}
@@ -19,8 +19,8 @@ use Rattle.layout.specs.Reading.{in_set}
 use Rattle.plans.specs.Plans.{Plan, TakeAnswer, stock_block_of, changes_to, take_targets, taking}
 use Rattle.reader.specs.Reads.{Finds}
 use Rattle.reader.specs.declared.Found.{Found}
-use Rattle.register.specs.Takes.{place_of, slot_targets, Allowed}
-use Rattle.register.proofs.Places.{place_of_slots}
+use Rattle.register.specs.Takes.{slot_targets, Allowed}
+use Rattle.register.proofs.Places.{position_is}
 use Rattle.register.proofs.TakeContents.{content_head, content_without}
 
 -- where an array of two has none
@@ -46,24 +46,25 @@ calls_after : {X : Type 0} (r : Reservoir X) (number : ℕ) → (counts_of (take
 unfolding taken
 calls_after r number = refl
 
+pub slot_is :
+    {X : Type 0} (f : Found) (r : Reservoir X) (number : ℕ) → Finds f r → (o : Option ℕ) →
+    o ≡ position (λ n. eqb n number) (take f.counters.counts.sampled f.sampled.numbers) → o ≡ slot_of r.slots number
+slot_is f r number finds o is =
+    is
+    ∙ ap (λ n. position (λ m. eqb m number) (take n.sampled f.sampled.numbers)) finds.counts
+    ∙ ap (position (λ n. eqb n number)) finds.numbers
+    ∙ position_is number r.slots
+
 module _ {X : Type 0} (code : ℕ) (form : X → List ℕ) (sized : (x : X) → length (form x) ≡ 60) (f : Found) (r : Reservoir X) (number : ℕ)
     (finds : Finds f r) where
-  pub slot_is :
-      (o : Option ℕ) → o ≡ place_of (take f.counters.counts.sampled f.sampled.numbers) number → o ≡ slot_of r.slots number
-  slot_is o is =
-      is
-      ∙ ap (λ n. place_of (take n.sampled f.sampled.numbers) number) finds.counts
-      ∙ ap (λ l. place_of l number) finds.numbers
-      ∙ place_of_slots r.slots number
-
   stock_is :
-      number < 32768 → (w : Write) → w ≡ write_at (stock_block_of number) (stock_block (without (in_set f.stock.bytes) number) (number / 4096)) →
+      number < 32768 → (after : ℕ → Bool) → ((p : ℕ) → after p ≡ without (in_set f.stock.bytes) number p) → (w : Write) →
+      w ≡ write_at (stock_block_of number) (stock_block after (number / 4096)) →
       w ≡ write_at (stock_block_of number) (content code form (taken r number) (stock_block_of number))
-  stock_is low w is =
+  stock_is low after removed w is =
       is
       ∙ ap (write_at (stock_block_of number))
-      (content_without code form sized r number (without (in_set f.stock.bytes) number) low
-      (λ p. ap (λ b. not (eqb p number) && b) (finds.stock p)))
+      (content_without code form sized r number after low (λ p. removed p ∙ ap (λ b. not (eqb p number) && b) (finds.stock p)))
 
   module _ (o : Option ℕ) (slot : o ≡ slot_of r.slots number) where
     -- the counters allow it
@@ -77,10 +78,11 @@ module _ {X : Type 0} (code : ℕ) (form : X → List ℕ) (sized : (x : X) → 
         is ∙ (λ i. after_take (is_some (slot i)) (finds.counts i)) ∙ sym ((follow X).take_follows r number)
 
     pub took :
-        Allowed r number → (n : Counts) (slots : List Write) (stock head : Write) (header : Pending) (after : Counts) →
+        Allowed r number → (n : Counts) (slots : List Write) (left : ℕ → Bool) (stock head : Write) (header : Pending) (after : Counts) →
         n ≡ after_take (is_some o) f.counters.counts →
         slots ≡ changes_to code form (taken r number) (slot_targets o (length r.slots - 1)) →
-        stock ≡ write_at (stock_block_of number) (stock_block (without (in_set f.stock.bytes) number) (number / 4096)) →
+        ((p : ℕ) → left p ≡ without (in_set f.stock.bytes) number p) →
+        stock ≡ write_at (stock_block_of number) (stock_block left (number / 4096)) →
         head ≡ write_at 0 (head_of code n) →
         header
         ≡ record {
@@ -98,12 +100,12 @@ module _ {X : Type 0} (code : ℕ) (form : X → List ℕ) (sized : (x : X) → 
           writes = commit_writes 2 (pending_bytes header) (get_or slots 0 no_write ∷ get_or slots 1 no_write ∷ stock ∷ head ∷ []);
         }))
     unfolding taking
-    took can n slots stock head header after counts two third fourth is same =
+    took can n slots left stock head header after counts two removed third fourth is same =
         let now = counts_after n counts in
         let k = length r.slots in
         let next = taken r number in
         let changes : get_or slots 0 no_write ∷ get_or slots 1 no_write ∷ stock ∷ head ∷ [] ≡ changes_to code form next (take_targets (slot_of r.slots number) k number) =
-        four_changes code form next number o k slots stock head two (stock_is can.low stock third)
+        four_changes code form next number o k slots stock head two (stock_is can.low left removed stock third)
         (fourth ∙ ap (λ m. write_at 0 (head_of code m)) now ∙ ap (write_at 0) (sym (content_head code form next)))
         ∙ ap (λ p. changes_to code form next (take_targets p k number)) slot in
         let blocks = ap (map (λ (w : Write). w.block)) changes ∙ four_blocks code form next number (slot_of r.slots number) k in

@@ -1,7 +1,6 @@
--- What the parts of a Take work out: where a number stands, and the bytes of a block of slots with a slot changed.
+-- What the parts of a Take work out: the bytes of a block of slots with a slot changed, and what it changes.
 -- Assumes nothing.
 use Rattle.std.specs.Prelude.{◌≡◌, ℕ, ◌+◌, ◌/◌, ◌<◌, true, cond, not, List, [], ◌∷◌, length, Some, None, Ok, Option, Result, ◌==◌}
-use Rattle.std.specs.Option.{option_map}
 use Rattle.fault.specs.Refusals.{not_in_stock, last_call}
 use Rattle.fault.specs.declared.Fault.{Fault}
 use Rattle.pairing.specs.Reservoir.{Reservoir, slot_of}
@@ -9,11 +8,6 @@ use Rattle.layout.specs.Layout.{slot_at, with_slot}
 use Rattle.layout.specs.Reading.{in_set}
 use Rattle.plans.specs.Plans.{refused_if, slot_block_of}
 use Rattle.reader.specs.declared.Found.{Found}
-
--- where a number first stands
-abbrev pub place_of : List ℕ → ℕ → Option ℕ
-place_of [] p = None
-place_of (x ∷ xs) p = cond (x == p) (Some 0) (option_map (λ i. 1 + i) (place_of xs p))
 
 -- the j-th block of slots with new bytes in slot i, if that is one of its eight
 abbrev pub changed_in : List ℕ → ℕ → ℕ → List ℕ → List ℕ

@@ -1,15 +1,16 @@
-ghost use Rattle.std.specs.Prelude.{◌≡◌, Ok, nat_lt};
+ghost use Rattle.std.specs.Prelude.{◌≡◌, ◌/◌, Ok, nat_lt};
 ghost use Rattle.fault.specs.Refusals.{number_too_large};
 ghost use Rattle.journal.specs.Writes.{Runs, write_at};
-ghost use Rattle.layout.specs.Layout.{head_of};
-ghost use Rattle.plans.specs.Plans.{refused_if, stock_block_of};
+ghost use Rattle.layout.specs.Layout.{head_of, stock_block};
+ghost use Rattle.layout.specs.Reading.{in_set};
+ghost use Rattle.plans.specs.Plans.{refused_if, slot_block_of, stock_block_of};
 ghost use Rattle.register.specs.Planned.{writes_of};
 
 use device::Device;
 use fault::Fault;
 use items::Kind;
 use journal::{Pending, Write, commit};
-use layout::head_bytes;
+use layout::{PackSet, head_bytes};
 use pairing::Counters;
 
 // The first block of the stock, and of the slots.
@@ -41,6 +42,23 @@ pub(crate) fn stock_block(number: u16) -> u16
     ensures { result ≡ stock_block_of number }
 {
     STOCK + number / 4096
+}
+
+// The block that has the slot.
+pub(crate) fn slot_block(slot: u16) -> u16
+    ensures { result ≡ slot_block_of slot }
+{
+    SLOTS + slot / 8
+}
+
+// The stock's block that has the number, with the stock after a call.
+pub(crate) fn stock_change(after: &PackSet, number: u16) -> Write
+    ensures { result ≡ write_at (stock_block_of number) (stock_block (in_set after.now.bytes) (number / 4096)) }
+{
+    Write {
+        block: stock_block(number),
+        bytes: after.block(number),
+    }
 }
 
 // The head, with these counters.

@@ -7,7 +7,7 @@ mod tests {
     use fault::{Fault, Place};
     use items::{Label, WardBox};
     use plans::Opened;
-    use register::{Side, same, store, take};
+    use register::{SideFault, same, store, take};
     use startup::{make, open};
     use std::process::Abort;
     use std::test::Fail;
@@ -67,14 +67,12 @@ mod tests {
     }
 
     // How a register of labels in these bytes is refused.
-    fn refusal(rt: &impl Abort, bytes: &mut [u8]) -> Result<(u8, u16, u8), Fail> {
+    fn refusal(bytes: &mut [u8]) -> Result<(u8, u16, u8), Fail> {
         let image = Image::new(bytes);
         match same::<Label, Image, Image>(&image, &image) {
             Ok(_) => Ok((0, 0, 0)),
-            Err(refusal) => {
-                assert!(rt; matches!(refusal.side, Side::Left));
-                Ok(told(&refusal.fault))
-            }
+            Err(SideFault::Left(fault)) => Ok(told(&fault)),
+            Err(SideFault::Right(_)) => Err(Fail::new("the left register is read first")),
         }
     }
 
@@ -132,14 +130,14 @@ mod tests {
     fn damages_are_told(rt: HostRuntime) -> Result<(), Fail> {
         let mut good = [0u8; BYTES];
         three_packs(&rt, &mut good)?;
-        assert_eq!(rt; refusal(&rt, &mut good)?, (0, 0, 0));
+        assert_eq!(rt; refusal(&mut good)?, (0, 0, 0));
         for (at, byte, expected) in DAMAGES {
             let mut bytes = good;
             assert!(rt; at < BYTES);
             if at < BYTES {
                 bytes[at] = byte;
             }
-            assert_eq!(rt; refusal(&rt, &mut bytes)?, expected);
+            assert_eq!(rt; refusal(&mut bytes)?, expected);
         }
         Ok(())
     }
@@ -160,8 +158,8 @@ mod tests {
             entries[block] = None;
             let device = lost_after(&mut entries, 0, Remains::Old);
             match same::<Label, Failing, Failing>(&device, &device) {
-                Ok(_) => return Err(Fail::new("an unreadable block")),
-                Err(refusal) => assert_eq!(rt; told(&refusal.fault), expected),
+                Err(SideFault::Left(fault)) => assert_eq!(rt; told(&fault), expected),
+                _ => return Err(Fail::new("an unreadable block")),
             }
         }
         Ok(())

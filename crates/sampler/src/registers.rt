@@ -9,7 +9,7 @@ use fault::Fault;
 use intake::Entry;
 use items::{ItemKind, Label, WardBox};
 use lines::Transaction;
-use register::{Side, SideFault, same};
+use register::{SideFault, same};
 use session::{Reply, resume};
 use startup::{make, open};
 use std::io::{BufWriter, Write};
@@ -56,13 +56,8 @@ pub(crate) fn compare(rt: &HostRuntime, left: &str, right: &str, kind: &str) -> 
     match same_images(kind, left_bytes.as_mut_slice(), right_bytes.as_mut_slice()) {
         Ok(true) => println!(rt; "same")?,
         Ok(false) => println!(rt; "different")?,
-        Err(refusal) => {
-            let path = match refusal.side {
-                Side::Left => left,
-                Side::Right => right,
-            };
-            return Err(refusal.fault).context(path);
-        }
+        Err(SideFault::Left(fault)) => return Err(fault).context(left),
+        Err(SideFault::Right(fault)) => return Err(fault).context(right),
     }
     Ok(())
 }

@@ -18,17 +18,18 @@ use Rattle.journal.specs.declared.headers.Header.TheVariants as header
 use Rattle.journal.specs.declared.headers.Pending.{Pending}
 use Rattle.std.specs.Option.{option_or}
 use Rattle.layout.specs.Reading.{decode, unless_fault, block_fault, first_of, bytes_of}
-use Rattle.plans.specs.Plans.{Plan, and_then, answering, agrees, pending_changes, finished_call, finishing, open_answer, opened_by, open_plan, too_small}
+use Rattle.plans.specs.Plans.{Plan, and_then, answering, agrees, pending_changes, finished_call, finishing, open_answer, opened_by, open_plan}
 use Rattle.plans.specs.Views.{viewed}
 use Rattle.plans.specs.declared.Finished.{Finished}
 use Rattle.plans.specs.declared.Opened.{Opened}
 use Rattle.plans.proofs.Standing.{header_four}
 use Rattle.plans.proofs.Viewing.{place_four}
-use Rattle.reader.specs.Reads.{Steady}
+use Rattle.reader.specs.Reads.{Steady, HeaderRead}
 use Rattle.reader.proofs.Rests.{no_fault}
 use Rattle.startup.specs.Opens.{writes_of, plan_of, planned, agrees_with, Found, FoundBy}
-use Rattle.startup.specs.Starts.{Came, came, Ready, HeaderRead}
-use Rattle.startup.proofs.Beginning.{Allowed, large, header_is}
+use Rattle.startup.specs.Starts.{came, Started, tried, Ready}
+use Rattle.reader.proofs.AtRest.{large}
+use Rattle.startup.proofs.Beginning.{header_is}
 use Rattle.startup.specs.declared.opening.Finding.{Finding}
 use Rattle.startup.specs.declared.opening.Task.{Task}
 use Rattle.startup.specs.declared.opening.Task.TheVariants as task
@@ -157,7 +158,8 @@ module _ {X : Type 0} (code : ℕ) (reading : List ℕ → Option X) where
 
   -- found once the device came online
   pub found_online :
-      (d d₁ : Disk) (r : Result Finding Fault) → Allowed (too_small d) → Came d (Ok tt) d₁ → Found code reading d₁ r →
+      {d d₁ : Disk} (r : Result Finding Fault) → Started d (Ok tt) d₁ → Found code reading d₁ r →
       answering open_answer (open_plan code reading d) ≡ planned r
-  found_online d d₁ r allowed came h =
-      ap (answering open_answer) (sym (plan_turned d true)) ∙ sym (h (record { online = refl; inside = large d allowed }))
+  found_online {d} r (tried small came) h =
+      ap (answering open_answer) (sym (plan_turned d true))
+      ∙ sym (h (record { online = refl; inside = large d (sym (ap (λ o. unless_fault o tt) small)) }))

@@ -1,11 +1,12 @@
 -- How a start goes on.
 -- Assumes nothing.
-use Rattle.std.proofs.Common.{◌≡◌, Some, None, Ok, Err, Option, Result, sym, refl, ◌∙◌, subst}
+use Rattle.std.proofs.Common.{◌≡◌, [], Some, None, Ok, Err, Option, Result, sym, refl, ◌∙◌, subst}
 use Rattle.fault.specs.declared.Fault.{Fault}
 use Rattle.device.specs.Disk.{Disk}
+use Rattle.journal.specs.Writes.{Runs}
 use Rattle.layout.specs.Reading.{unless_fault}
 use Rattle.plans.specs.Plans.{Plan, too_small}
-use Rattle.plans.specs.Calls.{Performs, PerformsOnline, refused_early, stayed_offline, went_on}
+use Rattle.plans.specs.Calls.{Performs, PerformsOnline, refused, done, interrupted, refused_early, stayed_offline, went_on}
 use Rattle.startup.specs.Starts.{Came, came, stayed, Started, small, tried}
 
 -- ---- the two ways of the test
@@ -53,3 +54,17 @@ pub performs_early :
     a ≡ Err f → PerformsOnline early plan d a d
 performs_early {early = early} {plan = plan} {d} e is =
     subst (λ a. PerformsOnline early plan d a d) (sym is) (record { events = _; performed = refused_early e; fixed = refl })
+
+-- ---- what a call does once it has started
+
+module _ {A : Type 0} {plan : Result (Plan A) Fault} {d : Disk} where
+  pub stops : {a : Result A Fault} {f : Fault} → a ≡ Err f → plan ≡ Err f → Performs plan d a d
+  stops {a} e h = subst (λ a. Performs plan d a d) (sym e) (record { events = []; performed = refused h; fixed = refl })
+
+  pub breaks_off :
+      {d' : Disk} {a : Result A Fault} {p : Plan A} {f : Fault} → a ≡ Err f → plan ≡ Ok p → Runs p.writes d (Err f) d' → Performs plan d a d'
+  breaks_off {d'} e h run =
+      subst (λ a. Performs plan d a d') (sym e) (record { events = run.events; performed = interrupted h run.ran; fixed = run.fixed })
+
+  pub finishes : {d' : Disk} {p : Plan A} → plan ≡ Ok p → Runs p.writes d (Ok tt) d' → Performs plan d (Ok p.answer) d'
+  finishes h run = record { events = run.events; performed = done h run.ran; fixed = run.fixed }

@@ -1,12 +1,9 @@
 -- How a call begins: with a device that is large enough, and online.
 -- Assumes nothing.
 use Rattle.std.specs.Prelude.{◌≡◌, ◌≤◌, true, false, Some, None, Ok, Err, Result}
-use Rattle.std.specs.Result.{result_map_both}
 use Rattle.fault.specs.Refusals.{offline}
 use Rattle.fault.specs.declared.Fault.{Fault}
-use Rattle.device.specs.Disk.{Disk, blocks, turned, reading}
-use Rattle.journal.specs.Header.{header_of}
-use Rattle.journal.specs.declared.headers.Header.{Header}
+use Rattle.device.specs.Disk.{Disk, blocks, turned}
 use Rattle.plans.specs.Plans.{too_small}
 
 -- The disk d was to be brought online: the answer, and the disk after it.
@@ -18,10 +15,6 @@ pub data Came (d : Disk) : Result (Unit {0}) Fault → Disk → Type 0 where
 pub record Ready (d : Disk) : Type 0 where
   pub online : d.online ≡ true
   pub inside : 78 ≤ blocks d
-
--- the header was read
-abbrev pub HeaderRead : Disk → Result Header Fault → Type 0
-HeaderRead d r = r ≡ result_map_both header_of (λ _. offline 1) (reading d 1)
 
 -- A start on the disk d: the answer, and the disk after it.
 pub data Started (d : Disk) : Result (Unit {0}) Fault → Disk → Type 0 where

@@ -1,5 +1,5 @@
 ghost use Rattle.std.specs.Prelude.{◌≡◌};
-ghost use Rattle.journal.specs.Writes.{Runs, write_at};
+ghost use Rattle.journal.specs.Writes.{Runs};
 ghost use Rattle.plans.specs.Calls.{PerformsOnline};
 ghost use Rattle.plans.specs.Plans.{make_refusal, make_plan, zero_block};
 ghost use Rattle.startup.specs.Makes.{Empty, first_two, zero_writes, writes_with};
@@ -26,10 +26,7 @@ pub fn make<K: Kind, D: Device>(device: &mut D, capacity: u16) -> Result<(), Fau
 fn no_packs(capacity: u16) -> Result<Counters, Fault>
     ensures { Empty capacity result }
 {
-    match Counters::new(capacity) {
-        Some(counters) => Ok(counters),
-        None => Err(Fault::BAD_CAPACITY),
-    }
+    Counters::new(capacity).ok_or(Fault::BAD_CAPACITY)
 }
 
 // All the writes; the last is that of the head.
@@ -38,14 +35,22 @@ fn write_register<D: Device>(device: &mut D, head: &[u8; 512]) -> Result<(), Fau
 {
     write_all(device, &first_writes())?;
     write_zeros(device)?;
-    write_all(device, &[block_write(0, head)])
+    let last = Write {
+        block: 0,
+        bytes: *head,
+    };
+    write_all(device, &[last])
 }
 
 // Zeros over an old head, so that no register is left, and a free header.
 fn first_writes() -> [Write; 2]
     ensures { result ≡ first_two }
 {
-    [zero_block(0), block_write(1, &free_header())]
+    let header = Write {
+        block: 1,
+        bytes: free_header(),
+    };
+    [zero_block(0), header]
 }
 
 // Zeros into the blocks of the stock and of the slots.
@@ -64,14 +69,5 @@ fn zero_block(block: u16) -> Write
     Write {
         block,
         bytes: [0; 512],
-    }
-}
-
-fn block_write(block: u16, bytes: &[u8; 512]) -> Write
-    ensures { result ≡ write_at block bytes.now }
-{
-    Write {
-        block,
-        bytes: *bytes,
     }
 }

@@ -2,19 +2,19 @@ ghost use Rattle.std.specs.Prelude.{◌≡◌};
 ghost use Rattle.journal.specs.Writes.{Runs};
 ghost use Rattle.journal.specs.declared.headers.Header.TheVariants as header;
 ghost use Rattle.plans.specs.Calls.{PerformsOnline};
-ghost use Rattle.plans.specs.Plans.{too_small, answering, open_answer, open_plan, used_by, finished_call};
+ghost use Rattle.plans.specs.Plans.{too_small, answering, open_answer, open_plan, used_by};
 ghost use Rattle.startup.specs.Opens.{writes_of, Found, FoundBy, CountsRead, RestRead, ImageRead, ChangesRead, agrees_with};
 
-use crate::start::{bring_online, read_header, require_blocks};
+use crate::start::start;
 use device::Device;
 use fault::{Damage, Fault};
 use items::Kind;
 use journal::{Header, Pending, PendingCall, Write, replay};
 use pairing::Counts;
 use plans::{Finished, Opened};
-use reader::{View, read_through};
+use reader::{View, read_header, read_through};
 
-// What Open has to write.
+// What Open has to write: three cases, which an Option of an Option would not name.
 #[derive(Clone, Copy)]
 enum Task {
     Nothing,
@@ -35,8 +35,7 @@ struct Finding {
 pub fn open<K: Kind, D: Device>(device: &mut D) -> Result<Opened, Fault>
     ensures { PerformsOnline (too_small (D.Device.meaning device.old)) (answering open_answer (open_plan K.Kind.code K.Kind.reading (D.Device.meaning device.old))) (D.Device.meaning device.old) result (D.Device.meaning device.new) }
 {
-    require_blocks(device)?;
-    bring_online(device)?;
+    start(device)?;
     let finding = find::<K, D>(device)?;
     perform(device, &finding.task)?;
     Ok(finding.opened)
@@ -78,11 +77,7 @@ fn find_by<K: Kind, D: Device>(device: &D, header: Header) -> Result<Finding, Fa
 fn find_resting<K: Kind, D: Device>(device: &D, task: Task) -> Result<Finding, Fault>
     ensures { RestRead K.Kind.code K.Kind.reading (D.Device.meaning device.now) task result }
 {
-    let counts = read_counts::<K, D>(&View {
-        device,
-        first: 0,
-        targets: &[],
-    })?;
+    let counts = read_counts::<K, D>(&View::plain(device))?;
     Ok(Finding {
         task,
         opened: Opened {
@@ -105,7 +100,7 @@ fn find_pending<K: Kind, D: Device>(device: &D, pending: Pending) -> Result<Find
         task: Task::Replay(changes),
         opened: Opened {
             counts,
-            finished: Some(finished(&pending)),
+            finished: Some(Finished::from(pending)),
         },
     })
 }
@@ -134,6 +129,7 @@ fn read_changes<D: Device>(device: &D, targets: &[u16; 4]) -> Result<[Write; 4],
     ensures { ChangesRead (D.Device.meaning device.now) targets.now result }
 {
     let [first, second, third, fourth] = *targets;
+    // written out: the `map` of an array cannot stop at a fault
     Ok([
         read_image(device, 2, first)?,
         read_image(device, 3, second)?,
@@ -146,15 +142,9 @@ fn read_changes<D: Device>(device: &D, targets: &[u16; 4]) -> Result<[Write; 4],
 fn read_image<D: Device>(device: &D, block: u16, target: u16) -> Result<Write, Fault>
     ensures { ImageRead (D.Device.meaning device.now) block target result }
 {
-    let plain = View {
-        device,
-        first: 0,
-        targets: &[],
-    };
-    let bytes = plain.bytes(block)?;
     Ok(Write {
         block: target,
-        bytes,
+        bytes: View::plain(device).bytes(block)?,
     })
 }
 
@@ -163,10 +153,8 @@ fn agrees(pending: &Pending, counts: Counts) -> bool
     ensures { result ≡ agrees_with pending.now counts }
 {
     let used = u64::from(words_used(pending.call));
-    match pending.words.checked_add(used) {
-        Some(words) => pending.calls == u64::from(counts.calls) && words == counts.words,
-        None => false,
-    }
+    pending.calls == u64::from(counts.calls)
+        && pending.words.checked_add(used) == Some(counts.words)
 }
 
 // The words that a pending call used.
@@ -176,16 +164,5 @@ fn words_used(call: PendingCall) -> u8
     match call {
         PendingCall::Store { used, .. } => used,
         PendingCall::Take => 0,
-    }
-}
-
-// The pending call, as it is answered.
-fn finished(pending: &Pending) -> Finished
-    ensures { result ≡ finished_call pending.now.call pending.now.number }
-{
-    let number = pending.number;
-    match pending.call {
-        PendingCall::Store { draw, .. } => Finished::Store { number, draw },
-        PendingCall::Take => Finished::Take { number },
     }
 }

@@ -1,4 +1,4 @@
-use Rattle.journal.proofs.Writes.{runs_as, exit_is}
+use Rattle.journal.proofs.Writes.{exit_is}
 use Rattle.startup.proofs.MakeWrites.{stops_first, stops_in_zeros, runs_all}
 use Rattle.startup.proofs.making.write_register.Goals as goal
 
@@ -14,4 +14,4 @@ returns-in_err-write_zeros g c =
 pub returns : goal.returns
 returns g c =
     runs_all _ c.first_writes.ensures c.in_ok-write_all.ensures c.in_ok-write_zeros.ensures
-    (runs_as c.block_write.ensures c.write_all-2.ensures)
+    c.write_all-2.ensures

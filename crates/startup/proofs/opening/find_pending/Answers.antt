@@ -24,4 +24,4 @@ returns g c = λ s h.
     let p = c.args.pending in
     agree g.K.Kind.code g.K.Kind.reading d p c.in_ok-changes.changes (c.in_ok-changes.ensures s)
     (c.in_ok-counts.ensures (pending_steady d p s h))
-    (sym c.agrees.ensures ∙ c.if-not-agrees.false) c.finished.ensures
+    (sym c.agrees.ensures ∙ c.if-not-agrees.false) c.from.ensures
