@@ -5,6 +5,7 @@ pub mod Faults
 pub mod HeadLaws
 pub mod HeadSteps
 pub mod Joining
+pub mod KindCodes
 pub mod LayoutLaws
 pub mod Places
 pub mod SetLaws

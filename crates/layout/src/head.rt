@@ -7,6 +7,7 @@ ghost use Rattle.layout.specs.Layout.{mark, head_of};
 ghost use Rattle.layout.specs.Reading.{marked, known_kind, counts_in, counts_fault, head_fault, unless_fault};
 
 use fault::{Damage, Fault};
+use items::ItemKind;
 use octets::{all_zero, put, u16_at, u64_at};
 use pairing::{Counters, Counts, CountsError};
 
@@ -65,7 +66,7 @@ fn has_mark(bytes: &[u8]) -> bool
 fn is_kind(code: u8) -> bool
     ensures { result ≡ known_kind code }
 {
-    code == 1 || code == 2
+    ItemKind::try_from(code).is_ok()
 }
 
 // The numbers in a head, where the count of calls is one that can be.

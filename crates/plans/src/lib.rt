@@ -13,7 +13,7 @@ use pairing::Counts;
 pub const BLOCKS: u16 = 78;
 
 // The call that Open finished.
-#[derive(Clone, Copy)]
+#[derive(Clone, Copy, Debug, PartialEq, Eq)]
 pub enum Finished {
     Store { number: u16, draw: u16 },
     Take { number: u16 },
@@ -32,7 +32,7 @@ impl From<Pending> for Finished {
 }
 
 // What Open answers.
-#[derive(Clone, Copy)]
+#[derive(Clone, Copy, Debug, PartialEq, Eq)]
 pub struct Opened {
     pub counts: Counts,
     // the call that was pending

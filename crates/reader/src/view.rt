@@ -60,7 +60,7 @@ impl<'a, D: Device> View<'a, D> {
     }
 }
 
-// The bytes of the block with this entry.
+// The bytes of the block with this entry. By a match, not `ok_or`: only in its arm is it known that they are 512 bytes.
 fn whole(entry: Entry, block: u16) -> Result<[u8; 512], Fault>
     ensures { result ≡ unless_fault (unless (readable entry) block damage.Unreadable) (bytes_of entry) }
 {
