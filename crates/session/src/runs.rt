@@ -105,7 +105,8 @@ fn put(replies: &mut [Reply], place: usize, reply: Reply)
     replies[place] = reply;
 }
 
-// Makes the calls in their order, and puts the answer of each into its place.
+// Makes the calls in their order, and puts the answer of each into its place. By index: once a zip with `iter_mut` is
+// over, the proof knows how many answers there are, and not which.
 fn perform_all<K: Kind, J: Kind, S: Source, D: Device>(
     device: &mut D,
     calls: &[Call<K, J, S>],
