@@ -1,13 +1,8 @@
 -- Where a number first stands among the numbers of the slots.
 -- Assumes nothing.
-use Rattle.std.proofs.Common.{◌≡◌, ℕ, ◌+◌, Bool, true, false, cond, eqb, ltb, List, [], ◌∷◌, map, Some, None, refl, ap, ◌∙◌, arith, position}
+use Rattle.std.proofs.Common.{◌≡◌, ℕ, ◌+◌, Bool, true, false, cond, eqb, List, [], ◌∷◌, map, Some, refl, ap, ◌∙◌, arith, position}
 use Rattle.std.specs.Option.{option_map}
 use Rattle.pairing.specs.Reservoir.{Slot, slot_of}
-
-module _ (n m : ℕ) where
-  one_more : (b : Bool) → ltb n m ≡ b → cond (ltb (1 + n) (m + 1)) (Some (1 + n)) None ≡ option_map (λ i. 1 + i) (cond b (Some n) None)
-  one_more true h = grind arith
-  one_more false h = grind arith
 
 module _ (p : ℕ) where
   step : (x : ℕ) (xs : List ℕ) (b : Bool) → eqb x p ≡ b →

@@ -1,15 +1,18 @@
 -- The bytes of a reservoir's blocks after a take, from those before it.
 -- Assumes nothing.
-use Rattle.std.proofs.Common.{◌≡◌, ℕ, ◌+◌, ◌*◌, ◌/◌, ◌%◌, ◌<◌, Bool, eqb, ltb, ◌≢◌, List, [], ◌∷◌, length, get_or, take, drop, set, Some, None, Option, sym, refl, ap, ◌∙◌, ⊎_elim, arith}
+use Rattle.std.proofs.Common.{◌≡◌, ℕ, ◌+◌, ◌*◌, ◌/◌, ◌%◌, ◌<◌, Bool, eqb, ltb, ◌≢◌, List, [], ◌∷◌, length, get_or, take, drop, set, Some, None, Ok, Option, Result, sym, refl, ap, ◌∙◌, ⊎_elim, arith}
 use Rattle.std.proofs.lemmas.Bool.{cond-true, cond-false, eq-eqb, ne_eqb, lt-ltb, le-ltb, cases_eq}
+use Rattle.fault.specs.declared.Fault.{Fault}
 use Rattle.octets.specs.Zeros.{zeros}
 use Rattle.pairing.specs.Reservoir.{Slot, Reservoir, taken, slot_of, slots_after, freed, without}
 use Rattle.pairing.specs.Steps.{counts_of}
 use Rattle.pairing.proofs.Slots.{Found, there, nowhere, search_found}
-use Rattle.layout.specs.Layout.{head_of, stock_block, slot_bytes, slot_at, slot_block, with_slot, content}
+use Rattle.layout.specs.Laws.{Storable}
+use Rattle.layout.specs.Layout.{Laid, head_of, stock_block, slot_bytes, slot_at, slot_block, with_slot, content}
 use Rattle.layout.proofs.SlotChanges.{slot_at_lem, slot_there, set_changed, set_kept, freed_changed, freed_kept}
 use Rattle.plans.specs.Plans.{slot_block_of, stock_block_of}
 use Rattle.register.specs.Takes.{changed_in, Frees}
+use Rattle.register.proofs.Held.{ok_is, slot_laid, few_slots}
 
 -- ---- a slot changed
 
@@ -125,6 +128,21 @@ module _ {X : Type 0} (code : ℕ) (form : X → List ℕ) (sized : (x : X) → 
     count = count;
     moved = cut ∙ ap (λ b. take 64 (drop (64 * (last % 8)) b)) is ∙ slot_cut last;
   }
+
+  module _ (storable : Storable r) where
+    pub slot_low : (h : ℕ) → slot_of r.slots number ≡ Some h → h < 512
+    slot_low h slot = omega (arith, few_slots r storable, slot_inside r.slots number h slot)
+
+    pub last_low : (last : ℕ) → length r.slots ≡ last + 1 → last < 512
+    last_low last count = omega (arith, few_slots r storable, count)
+
+    -- where the block of the last slot was read
+    pub frees_read :
+        (h last b : ℕ) (block bytes : List ℕ) → slot_of r.slots number ≡ Some h → length r.slots ≡ last + 1 → b ≡ slot_block_of last →
+        (Laid b → ◌≡◌ {A = Result (List ℕ) Fault} (Ok block) (Ok (content code form r b))) → bytes ≡ take 64 (drop (64 * (last % 8)) block) →
+        Frees form r number h last bytes
+    frees_read h last b block bytes slot count at read =
+        frees_by h last block bytes slot count (ok_is (read (slot_laid b last at (last_low last count))) ∙ ap (content code form r) at)
 
   -- the stock
   pub content_without :

@@ -1,6 +1,6 @@
 -- Lemmas on what Open reads, and on the plan that it makes of it.
 -- Assumes nothing.
-use Rattle.std.proofs.Common.{◌≡◌, ℕ, ◌+◌, ◌<◌, Bool, true, false, cond, List, [], ◌∷◌, length, get_or, Some, None, Ok, Err, Option, Result, sym, refl, ap, ◌∙◌, subst, arith}
+use Rattle.std.proofs.Common.{◌≡◌, ℕ, ◌+◌, ◌<◌, Bool, true, false, cond, List, [], ◌∷◌, Some, None, Ok, Err, Option, Result, sym, refl, ap, ◌∙◌, subst, arith}
 use Rattle.std.specs.Result.{result_map_both}
 use Rattle.fault.specs.Refusals.{not_register}
 use Rattle.fault.specs.declared.Damage.TheVariants as damage
@@ -16,7 +16,6 @@ use Rattle.journal.specs.declared.Write.{Write}
 use Rattle.journal.specs.declared.headers.Header.{Header}
 use Rattle.journal.specs.declared.headers.Header.TheVariants as header
 use Rattle.journal.specs.declared.headers.Pending.{Pending}
-use Rattle.std.specs.Option.{option_or}
 use Rattle.layout.specs.Reading.{decode, unless_fault, block_fault, first_of, bytes_of}
 use Rattle.plans.specs.Plans.{Plan, and_then, answering, agrees, pending_changes, finished_call, finishing, open_answer, opened_by, open_plan}
 use Rattle.plans.specs.Views.{viewed}
@@ -37,29 +36,6 @@ use Rattle.startup.specs.declared.opening.Task.TheVariants as task
 -- with nothing to write
 pub nothing_written : (t : Task) (d : Disk) → t ≡ task.Nothing → Runs (writes_of t) d (Ok tt) d
 nothing_written t d e = subst (λ t. Runs (writes_of t) d (Ok tt) d) (sym e) (runs finished)
-
--- ---- the after-images
-
--- the after-image in block b was read as the change of a target
-abbrev pub Image : Disk → ℕ → ℕ → Write → Type 0
-Image d b target w = Ok w ≡ unless_fault (block_fault (entry_at d) b) (write_at target (bytes_of (entry_at d b)))
-
-pub four_images :
-    (d : Disk) (ts : List ℕ) (w x y z : Write) → length ts ≡ 4 → Image d 2 (get_or ts 0 0) w → Image d 3 (get_or ts 1 0) x →
-    Image d 4 (get_or ts 2 0) y → Image d 5 (get_or ts 3 0) z →
-    Ok (w ∷ x ∷ y ∷ z ∷ []) ≡ unless_fault (first_of (block_fault (entry_at d)) 2 4) (pending_changes d 2 ts)
-four_images d [] w x y z n h i j k = absurd (omega arith)
-four_images d (a ∷ []) w x y z n h i j k = absurd (omega arith)
-four_images d (a ∷ b ∷ []) w x y z n h i j k = absurd (omega arith)
-four_images d (a ∷ b ∷ c ∷ []) w x y z n h i j k = absurd (omega arith)
-four_images d (a ∷ b ∷ c ∷ e ∷ []) w x y z n h i j k =
-    let p = no_fault _ _ _ h in
-    let q = no_fault _ _ _ i in
-    let r = no_fault _ _ _ j in
-    let s = no_fault _ _ _ k in
-    (λ t. Ok (p.1 t ∷ q.1 t ∷ r.1 t ∷ s.1 t ∷ []))
-    ∙ (λ t. unless_fault (option_or (sym p.0 t) (option_or (sym q.0 t) (option_or (sym r.0 t) (option_or (sym s.0 t) None)))) (pending_changes d 2 (a ∷ b ∷ c ∷ e ∷ [])))
-four_images d (a ∷ b ∷ c ∷ e ∷ f ∷ ts) w x y z n h i j k = absurd (omega arith)
 
 -- ---- a pending call
 

@@ -1,6 +1,5 @@
 use Rattle.std.proofs.Common.{Ok, ap, ◌∙◌, subst}
 use Rattle.plans.specs.Plans.{at_rest}
-use Rattle.plans.proofs.Standing.{err_ok}
 use Rattle.register.specs.Reports.{Shown}
 use Rattle.register.proofs.Held.{rests_is}
 use Rattle.register.proofs.Showing.{too_short_lem, unread, all_shown}
@@ -16,9 +15,6 @@ returns-in_err-register g c =
     let k = g.K.Kind in
     unread k.code k.form k.reading _ _ _ c.in_ok-check_page.ensures _ _ c.from_residual-in_err-register.ensures.1
     c.in_err-register.ensures
-
-pub returns-in_err-fill : goal.returns-in_err-fill
-returns-in_err-fill g c = absurd (err_ok c.in_err-fill.ensures.0)
 
 pub returns : goal.returns
 returns g c =

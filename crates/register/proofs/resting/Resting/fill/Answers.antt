@@ -1,5 +1,4 @@
 use Rattle.std.proofs.Common.{◌*◌, refl, ap, arith}
-use Rattle.plans.proofs.Standing.{err_ok}
 use Rattle.register.specs.Rested.{resting}
 use Rattle.register.proofs.Held.{ok_is}
 use Rattle.register.proofs.Showing.{block_laid, shown_more, shown_all}
@@ -16,9 +15,6 @@ loop-j-preserved g c =
     c.loop-j.invariant
     (ok_is (c.in_ok-block.ensures (block_laid _ (omega arith))))
     c.put.ensures
-
-pub returns-in_err-block : goal.returns-in_err-block
-returns-in_err-block g c = absurd (err_ok (c.in_err-block.ensures (block_laid _ (omega arith))))
 
 pub returns : goal.returns
 returns g c =

@@ -1,4 +1,3 @@
-use Rattle.plans.proofs.Standing.{err_ok}
 use Rattle.register.proofs.Held.{ok_is}
 use Rattle.register.proofs.Performing.{prepared_exit}
 use Rattle.register.proofs.Storing.{undrawn, slot_changed, planned}
@@ -10,15 +9,6 @@ returns-in_err-step g c = λ accepts.
     let me = c.args.self.now in
     prepared_exit _ _ _ c.from_residual.ensures.1
     (undrawn k.code k.form me.found _ me.storable me.finds _ accepts c.args.item.now _ _ c.in_err-step.ensures)
-
-pub returns-in_err-slots : goal.returns-in_err-slots
-returns-in_err-slots g c = λ accepts.
-    let k = g.K.Kind in
-    let me = c.args.self.now in
-    let step = c.in_ok-step.ensures in
-    absurd (err_ok (
-    slot_changed k.code k.form me.found _ me.storable me.finds _ accepts c.args.item.now c.in_ok-step.step.drawn g.met.K.Kind.sized
-    _ step.from _ _ _ c.slot.ensures c.slot_bytes.ensures c.in_err-slots.ensures))
 
 pub returns : goal.returns
 returns g c = λ accepts.
