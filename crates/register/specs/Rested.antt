@@ -1,6 +1,7 @@
 -- A register at rest, as a call finds it.
 -- Assumes nothing.
 use Rattle.std.specs.Prelude.{ℕ, List, [], Ok, Err, Option, Result}
+use Rattle.items.specs.declared.kind.Kind as trait_of
 use Rattle.fault.specs.declared.Fault.{Fault}
 use Rattle.device.specs.Disk.{Disk, entry_at}
 use Rattle.pairing.specs.Reservoir.{Reservoir, empty}
@@ -23,3 +24,7 @@ held (Err f) = empty 1
 -- the reservoir of a register at rest
 abbrev pub resting : {X : Type 0} → ℕ → (List ℕ → Option X) → Disk → Reservoir X
 resting code reading d = held (at_rest code reading d)
+
+-- the same, for the kind of the items of a type, as its trait says
+abbrev pub kept_on : {X : Type 0} → trait_of.Ghosts X → Disk → Reservoir X
+kept_on k d = resting k.code k.reading d

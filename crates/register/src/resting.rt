@@ -4,7 +4,7 @@ ghost use Rattle.layout.specs.Laws.{Storable};
 ghost use Rattle.layout.specs.Layout.{Laid, content};
 ghost use Rattle.plans.specs.Plans.{at_rest};
 ghost use Rattle.reader.specs.Reads.{Finds};
-ghost use Rattle.register.specs.Rested.{resting};
+ghost use Rattle.register.specs.Rested.{kept_on};
 
 use device::Device;
 use fault::Fault;
@@ -19,8 +19,8 @@ pub(crate) struct Resting<'a, K: Kind, D: Device> {
     pub(crate) found: Found,
     kind: PhantomData<K>,
     ghost rests: { is_ok (at_rest K.Kind.code K.Kind.reading (D.Device.meaning device.now)) ≡ true },
-    ghost storable: { Storable (resting K.Kind.code K.Kind.reading (D.Device.meaning device.now)) },
-    ghost finds: { Finds found (resting K.Kind.code K.Kind.reading (D.Device.meaning device.now)) },
+    ghost storable: { Storable (kept_on K.Kind (D.Device.meaning device.now)) },
+    ghost finds: { Finds found (kept_on K.Kind (D.Device.meaning device.now)) },
 }
 
 impl<'a, K: Kind, D: Device> Resting<'a, K, D> {
@@ -38,7 +38,7 @@ impl<'a, K: Kind, D: Device> Resting<'a, K, D> {
 
     // The bytes of a block.
     pub(crate) fn block(&self, block: u16) -> Result<[u8; 512], Fault>
-        ensures { Laid block → result ≡ Ok (content K.Kind.code K.Kind.form (resting K.Kind.code K.Kind.reading (D.Device.meaning self.now.device.now)) block) }
+        ensures { Laid block → result ≡ Ok (content K.Kind.code K.Kind.form (kept_on K.Kind (D.Device.meaning self.now.device.now)) block) }
     {
         View::plain(self.device).bytes(block)
     }
