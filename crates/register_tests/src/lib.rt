@@ -17,18 +17,8 @@ mod tests {
 
     const LEAVES: [Remains; 3] = [Remains::Old, Remains::New, Remains::Unreadable];
 
-    fn label() -> Result<Label, Fail> {
-        match Label::new(b"12345670", b"AB12", b"280229") {
-            Ok(label) => Ok(label),
-            Err(_) => Err(Fail::new("a lawful label")),
-        }
-    }
-
-    fn done<T: Drop>(r: Result<T, Fault>) -> Result<T, Fail> {
-        match r {
-            Ok(x) => Ok(x),
-            Err(_) => Err(Fail::new("a call that is done")),
-        }
+    fn label() -> Result<Label, Fault> {
+        Label::new(b"12345670", b"AB12", b"280229")
     }
 
     // A tape of one word.
@@ -42,10 +32,10 @@ mod tests {
         let tape = word(2);
         let source = Tape { bytes: &tape };
         let label = label()?;
-        done(make::<Label, Image>(&mut image, 2))?;
-        done(store(&mut image, 10, &label, &source))?;
-        done(store(&mut image, 11, &label, &source))?;
-        let (calls, width, draw, slot) = done(store(&mut image, 12, &label, &source))?;
+        make::<Label, Image>(&mut image, 2)?;
+        store(&mut image, 10, &label, &source)?;
+        store(&mut image, 11, &label, &source)?;
+        let (calls, width, draw, slot) = store(&mut image, 12, &label, &source)?;
         assert_eq!(rt; calls, 3);
         assert_eq!(rt; width, 3);
         assert_eq!(rt; draw, 2);
@@ -212,9 +202,9 @@ mod tests {
         let tape = word(0);
         let source = Tape { bytes: &tape };
         let label = label()?;
-        done(make::<Label, Failing>(&mut device, 2))?;
+        make::<Label, Failing>(&mut device, 2)?;
         for i in 0..packs.min(2) {
-            done(store(&mut device, 10 + i, &label, &source))?;
+            store(&mut device, 10 + i, &label, &source)?;
         }
         Ok(entries)
     }
@@ -258,7 +248,7 @@ mod tests {
 
     fn reopened(entries: &mut [Entry]) -> Result<Opened, Fail> {
         let mut device = lost_after(entries, 1000, Remains::Old);
-        done(open::<Label, Failing>(&mut device))
+        Ok(open::<Label, Failing>(&mut device)?)
     }
 
     // Fails the call at each of its ten writes in each of three ways, and opens: the call is committed from the fifth write on.
@@ -351,7 +341,7 @@ mod tests {
         let mut start = two_packs(2)?;
         let tape = word(2);
         let mut device = lost_after(&mut start, 1000, Remains::Old);
-        done(store(&mut device, 12, &label()?, &Tape { bytes: &tape }))?;
+        store(&mut device, 12, &label()?, &Tape { bytes: &tape })?;
         fail_everywhere(
             &rt,
             &start,
@@ -370,14 +360,14 @@ mod tests {
         let mut image = Image::new(&mut bytes);
         let tape = [2, 0, 0, 0, 0, 0, 0, 0];
         let source = Tape { bytes: &tape };
-        let (_, width, draw, slot) = done(store(&mut image, 13, &label()?, &source))?;
+        let (_, width, draw, slot) = store(&mut image, 13, &label()?, &source)?;
         assert!(rt; width == 4 && draw == 0);
         assert_eq!(rt; slot, Some(0));
-        let (_, slot) = done(take::<Label, Image>(&mut image, 11))?;
+        let (_, slot) = take::<Label, Image>(&mut image, 11)?;
         assert_eq!(rt; slot, Some(1));
-        let (calls, slot) = done(take::<Label, Image>(&mut image, 10))?;
+        let (calls, slot) = take::<Label, Image>(&mut image, 10)?;
         assert!(rt; calls == 6 && slot.is_none());
-        let opened = done(open::<Label, Image>(&mut image))?;
+        let opened = open::<Label, Image>(&mut image)?;
         assert_eq!(rt; counts(&opened), (2, 1, 1, 1, 6, 2));
         assert!(rt; bytes[7168] == 13 && bytes[7169] == 0);
         Ok(())

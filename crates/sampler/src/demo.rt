@@ -82,10 +82,9 @@ fn print_replies<W: Write>(
     table: &[intake::Entry],
     replies: &[Reply],
 ) -> anyhow::Result<()> {
-    let transactions = table
-        .iter()
-        .enumerate()
-        .filter_map(|(i, entry)| entry.ok().map(|transaction| (i, transaction)));
+    let transactions = table.iter().enumerate().filter_map(|(i, entry)| entry
+        .ok()
+        .map(|transaction| (i, transaction)));
     for ((i, transaction), reply) in transactions.zip(replies) {
         let line = i + 1;
         write!(out, "{line}: ")?;

@@ -1,9 +1,8 @@
 // Files: read whole, and written so that nothing is lost where that fails.
 use anyhow::Context;
-use std::fs;
 use std::fs::File;
-use std::io;
 use std::io::{Read, Write};
+use std::{fs, io};
 
 // The bytes of the file.
 pub(crate) fn read_file(rt: &HostRuntime, path: &str) -> anyhow::Result<Vec<u8>> {
@@ -34,10 +33,10 @@ pub(crate) fn read_input(rt: &HostRuntime) -> anyhow::Result<Vec<u8>> {
 // Writes the file anew: to a temporary file beside it, which then takes its name.
 pub(crate) fn save(rt: &HostRuntime, path: &str, bytes: &[u8]) -> anyhow::Result<()> {
     let temporary = format!(in rt.alloc(); "{path}.new")?;
-    write_synced(rt, temporary.as_str(), bytes)
-        .context(format_args!("cannot write {temporary}"))?;
-    fs::rename(rt, temporary.as_str(), path)
-        .context(format_args!("cannot rename {temporary} to {path}"))
+    write_synced(rt, temporary.as_str(), bytes).context(format_args!("cannot write {temporary}"))?;
+    fs::rename(rt, temporary.as_str(), path).context(format_args!(
+        "cannot rename {temporary} to {path}"
+    ))
 }
 
 fn write_synced(rt: &HostRuntime, path: &str, bytes: &[u8]) -> io::Result<()> {

@@ -9,7 +9,7 @@ mod reports;
 mod scans;
 mod windows;
 
-use anyhow::anyhow;
+use anyhow::bail;
 use std::env;
 use std::process::ExitCode;
 
@@ -74,5 +74,5 @@ fn run(rt: &HostRuntime) -> anyhow::Result<()> {
 // Prints the usage.
 fn usage(rt: &HostRuntime) -> anyhow::Result<()> {
     eprintln!(rt; "{USAGE}")?;
-    Err(anyhow!("no such command, or too few words"))
+    bail!("no such command, or too few words")
 }

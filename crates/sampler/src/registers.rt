@@ -19,11 +19,8 @@ use words::Tape;
 const IMAGE_BYTES: usize = 78 * 512;
 
 // The kind of item with this name.
-pub(crate) fn kind_named(rt: &HostRuntime, name: &str) -> anyhow::Result<ItemKind> {
-    match name.parse() {
-        Ok(kind) => Ok(kind),
-        Err(why) => Err(anyhow!(format!(in rt.alloc(); "{name} is {why}")?)),
-    }
+pub(crate) fn kind_named(name: &str) -> anyhow::Result<ItemKind> {
+    name.parse().map_err(|why| anyhow!("{name} is {why}"))
 }
 
 // Makes a register in the image, which is made too where there is none.
@@ -33,7 +30,7 @@ pub(crate) fn make_image(
     capacity: &str,
     kind: &str,
 ) -> anyhow::Result<()> {
-    let kind = kind_named(rt, kind)?;
+    let kind = kind_named(kind)?;
     let capacity = capacity
         .parse::<u16>()
         .map_err(|_| Fault::BAD_CAPACITY)
@@ -50,7 +47,7 @@ pub(crate) fn make_image(
 
 // Says whether two registers have the same packs in stock and in their samples.
 pub(crate) fn compare(rt: &HostRuntime, left: &str, right: &str, kind: &str) -> anyhow::Result<()> {
-    let kind = kind_named(rt, kind)?;
+    let kind = kind_named(kind)?;
     let mut left_bytes = read_file(rt, left)?;
     let mut right_bytes = read_file(rt, right)?;
     match same_images(kind, left_bytes.as_mut_slice(), right_bytes.as_mut_slice()) {

@@ -2,7 +2,7 @@
 use crate::files::{read_file, save};
 use crate::registers::kind_named;
 use crate::windows::Window;
-use anyhow::{Context, anyhow};
+use anyhow::{Context, anyhow, bail};
 use device::Image;
 use fault::Fault;
 use items::{ItemKind, Kind, Label, WardBox};
@@ -21,7 +21,7 @@ const SLOT: usize = 64;
 pub(crate) fn report(rt: &HostRuntime, path: &str, kind: &str) -> anyhow::Result<()> {
     let mut page = blank_page(rt.alloc())?;
     let mut out = BufWriter::new(rt.alloc(), rt.stdout())?;
-    match kind_named(rt, kind)? {
+    match kind_named(kind)? {
         ItemKind::Label => {
             let counts = report_into::<Label, WardBox>(rt, path, page.as_mut_slice())?;
             print_sample::<Label, _>(&mut out, counts, page.as_slice())?;
@@ -42,11 +42,11 @@ pub(crate) fn report_until(
     kind: &str,
     day: &str,
 ) -> anyhow::Result<()> {
-    if kind_named(rt, kind)? != ItemKind::Label {
-        return Err(anyhow!("only labels expire"));
+    if kind_named(kind)? != ItemKind::Label {
+        bail!("only labels expire");
     }
     if day.is_empty() || Label::new(b"12345670", b"", day.as_bytes()).is_err() {
-        return Err(anyhow!(format!(in rt.alloc(); "{day} is no day: YYMMDD")?));
+        bail!("{day} is no day: YYMMDD");
     }
     let mut page = blank_page(rt.alloc())?;
     let counts = report_into::<Label, WardBox>(rt, path, page.as_mut_slice())?;

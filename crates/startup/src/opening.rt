@@ -129,7 +129,7 @@ fn read_changes<D: Device>(device: &D, targets: &[u16; 4]) -> Result<[Write; 4],
     ensures { ChangesRead (D.Device.meaning device.now) targets.now result }
 {
     let [first, second, third, fourth] = *targets;
-    // written out: the `map` of an array cannot stop at a fault
+    // written out: of `try_map` it is known that its fault is one of the images', and not that it is the first
     Ok([
         read_image(device, 2, first)?,
         read_image(device, 3, second)?,
