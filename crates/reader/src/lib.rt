@@ -14,7 +14,7 @@ pub use through::read_through;
 pub use view::View;
 
 // What was read of a register.
-#[derive(Clone, Copy)]
+#[derive(Clone, Copy, Debug, PartialEq, Eq)]
 pub struct Found {
     pub counters: Counters,
     // the pack numbers in stock

@@ -8,11 +8,11 @@ use items::Kind;
 use layout::{PackSet, read_unused, read_used, slot_in};
 
 // What was gathered of the slots in use.
-#[derive(Clone, Copy)]
+#[derive(Clone, Copy, Debug, PartialEq, Eq)]
 pub struct Sampled {
     // the numbers in stock that no slot has
     pub unsampled: PackSet,
-    // the number of each slot
+    // the number of each slot, as far as the counters say; fixed memory, as there is no heap here
     pub numbers: [u16; 512],
 }
 

@@ -8,7 +8,7 @@ use items::Kind;
 use reader::{Found, read_at_rest};
 
 // A refusal of the left or the right of the two registers that are compared.
-#[derive(Clone, Copy)]
+#[derive(Clone, Copy, Debug, PartialEq, Eq)]
 pub enum SideFault {
     Left(Fault),
     Right(Fault),

@@ -88,7 +88,7 @@ fn print_replies<W: Write>(
     for ((i, transaction), reply) in transactions.zip(replies) {
         let line = i + 1;
         write!(out, "{line}: ")?;
-        print_reply(out, number_of(transaction), *reply)?;
+        print_reply(out, reply.map(|answer| (number_of(transaction), answer)))?;
     }
     Ok(())
 }

@@ -8,9 +8,8 @@ use device::Image;
 use fault::Fault;
 use intake::Entry;
 use items::{ItemKind, Label, WardBox};
-use lines::Transaction;
 use register::{SideFault, same};
-use session::{Reply, resume};
+use session::{Answer, resume};
 use startup::{make, open};
 use std::io::{BufWriter, Write};
 use words::Tape;
@@ -18,7 +17,7 @@ use words::Tape;
 // The bytes of a new image: 78 blocks.
 const IMAGE_BYTES: usize = 78 * 512;
 
-// The kind of item with this name.
+// The kind of item with this name. Each command then matches on it once, for a type cannot be chosen at run time.
 pub(crate) fn kind_named(name: &str) -> anyhow::Result<ItemKind> {
     name.parse().map_err(|why| anyhow!("{name} is {why}"))
 }
@@ -93,37 +92,19 @@ pub(crate) fn scan_file(
     for (i, reply) in replies.as_slice().iter().enumerate() {
         let line = i + 1;
         write!(out, "{line}: ")?;
-        print_reply(&mut out, reply.number, reply.reply)?;
+        print_reply(&mut out, *reply)?;
     }
     out.flush()?;
     Ok(())
 }
 
-// The answer to a line, and the pack number that it is about.
-#[derive(Clone, Copy)]
-struct Answered {
-    number: u16,
-    reply: Reply,
-}
-
-// Does what a confirmed line says, after an Open.
-fn do_entry(image: &mut Image, tape: Tape, entry: Entry) -> Answered {
-    match entry {
-        Ok(transaction) => Answered {
-            number: number_of(transaction),
-            reply: do_transaction(image, tape, transaction),
-        },
-        Err(fault) => Answered {
-            number: 0,
-            reply: Err(fault),
-        },
-    }
-}
-
-fn do_transaction(image: &mut Image, tape: Tape, transaction: Transaction) -> Reply {
+// Does what a confirmed line says, after an Open: the pack number that it is about, and the answer.
+fn do_entry(image: &mut Image, tape: Tape, entry: Entry) -> Result<(u16, Answer), Fault> {
+    let transaction = entry?;
     let opened = open::<Label, Image>(image)?;
     let calls = [call_of(transaction, Window::on(tape, opened.counts.words))];
     let mut replies = [Err(Fault::TOO_SHORT)];
     resume(image, &calls, &mut [], &mut replies)?;
-    replies[0]
+    let [reply] = replies;
+    Ok((number_of(transaction), reply?))
 }

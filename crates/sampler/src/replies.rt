@@ -1,8 +1,9 @@
 // What is asked of a register by a transaction, and its answer in words.
 use crate::windows::Window;
+use fault::Fault;
 use items::{Label, WardBox};
 use lines::Transaction;
-use session::{Answer, Call, Reply, Request};
+use session::{Answer, Call, Request};
 use std::io::Write;
 
 // The call of a transaction, drawing from these words.
@@ -24,10 +25,13 @@ pub(crate) fn number_of(transaction: Transaction) -> u16 {
     }
 }
 
-// The answer of a call about the pack with this number.
-pub(crate) fn print_reply<W: Write>(out: &mut W, number: u16, reply: Reply) -> anyhow::Result<()> {
+// The answer of a call about the pack with this number, or why it was refused.
+pub(crate) fn print_reply<W: Write>(
+    out: &mut W,
+    reply: Result<(u16, Answer), Fault>,
+) -> anyhow::Result<()> {
     match reply {
-        Ok(answer) => print_answer(out, number, answer),
+        Ok((number, answer)) => print_answer(out, number, answer),
         Err(fault) => {
             writeln!(out, "{fault}")?;
             Ok(())

@@ -78,7 +78,8 @@ fn report_into<K: Kind, J: Kind>(
     if opened.finished.is_some() {
         save(rt, path, bytes.as_slice())?;
     }
-    match replies[0].context(path)? {
+    let [reply] = replies;
+    match reply.context(path)? {
         Answer::Reported(counts) => Ok(counts),
         _ => Err(anyhow!("no report")),
     }
@@ -117,17 +118,10 @@ pub(crate) fn print_sample<K: Kind + fmt::Display, W: Write>(
 }
 
 // How many labels in the first slots of the page expire before the day.
-pub(crate) fn expiring(page: &[u8], sampled: u16, day: &[u8]) -> u16 {
-    let mut early = 0u16;
-    for slot in page.chunks(SLOT).take(usize::from(sampled)) {
-        let [_, _, _, _, form @ ..] = slot else {
-            continue;
-        };
-        if let Some(label) = Label::from_form(form) {
-            if !label.expiry().is_empty() && label.expiry() < day {
-                early = early.saturating_add(1);
-            }
-        }
-    }
-    early
+pub(crate) fn expiring(page: &[u8], sampled: u16, day: &[u8]) -> usize {
+    page.chunks(SLOT)
+        .take(usize::from(sampled))
+        .filter_map(|slot| Label::from_form(slot.get(4..)?))
+        .filter(|label| !label.expiry().is_empty() && label.expiry() < day)
+        .count()
 }

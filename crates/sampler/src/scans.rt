@@ -25,19 +25,16 @@ pub(crate) fn entries(rt: &HostRuntime, input: &[u8]) -> anyhow::Result<Vec<Entr
 // A line for each entry, and at the end how many there are of each sort.
 fn print(rt: &HostRuntime, table: &[Entry]) -> anyhow::Result<()> {
     let mut out = BufWriter::new(rt.alloc(), rt.stdout())?;
-    let mut refused = 0usize;
     for (i, entry) in table.iter().enumerate() {
         let number = i + 1;
         match entry {
             Ok(transaction) => writeln!(out, "{number}: {transaction}")?,
-            Err(fault) => {
-                refused = refused.saturating_add(1);
-                writeln!(out, "{number}: {fault}")?;
-            }
+            Err(fault) => writeln!(out, "{number}: {fault}")?,
         }
     }
     let lines = table.len();
-    let transactions = lines.saturating_sub(refused);
+    let transactions = table.iter().filter(|entry| entry.is_ok()).count();
+    let refused = table.iter().filter(|entry| entry.is_err()).count();
     writeln!(
         out,
         "{lines} lines: {transactions} transactions, {refused} refused"

@@ -12,7 +12,7 @@ pub use calls::{Call, Reply, Request};
 pub use runs::{resume, run};
 
 // What a call that was done answers.
-#[derive(Clone, Copy)]
+#[derive(Clone, Copy, Debug, PartialEq, Eq)]
 pub enum Answer {
     // the count of calls, the width, the draw, and the slot that was filled
     Stored(u32, u16, u16, Option<u16>),
