@@ -1,6 +1,6 @@
 ghost use Rattle.layout.specs.Reading.{decode};
-ghost use Rattle.plans.specs.Views.{viewed};
 ghost use Rattle.reader.specs.Reads.{Steady, StockRead, SampleRead, ReadAs};
+ghost use Rattle.reader.specs.Viewed.{of_view, shown_by};
 
 use crate::Found;
 use crate::slots::Sampled;
@@ -12,7 +12,7 @@ use layout::{PackSet, read_head};
 
 // Reads a register through: the head, the stock, then the slots.
 pub fn read_through<K: Kind, D: Device>(view: &View<D>) -> Result<Found, Fault>
-    ensures { Steady (D.Device.meaning view.now.device.now) view.now.first view.now.targets.now → ReadAs (decode K.Kind.code K.Kind.reading (viewed (D.Device.meaning view.now.device.now) view.now.first view.now.targets.now)) result }
+    ensures { of_view Steady D.Device view.now → ReadAs (decode K.Kind.code K.Kind.reading (shown_by D.Device view.now)) result }
 {
     let counters = read_head(K::kind_code(), &view.bytes(0)?)?;
     let counts = counters.get();
@@ -30,7 +30,7 @@ pub fn read_through<K: Kind, D: Device>(view: &View<D>) -> Result<Found, Fault>
 
 // The stock: blocks 6 to 13.
 fn read_stock<D: Device>(view: &View<D>) -> Result<PackSet, Fault>
-    ensures { StockRead (D.Device.meaning view.now.device.now) view.now.first view.now.targets.now result }
+    ensures { of_view StockRead D.Device view.now result }
 {
     let mut stock = PackSet::empty();
     for j in 0..8 {
@@ -41,7 +41,7 @@ fn read_stock<D: Device>(view: &View<D>) -> Result<PackSet, Fault>
 
 // The slots: blocks 14 to 77.
 fn read_slots<K: Kind, D: Device>(view: &View<D>, k: u16, stock: PackSet) -> Result<Sampled, Fault>
-    ensures { SampleRead K.Kind.reading (D.Device.meaning view.now.device.now) view.now.first view.now.targets.now k stock result }
+    ensures { of_view (SampleRead K.Kind.reading) D.Device view.now k stock result }
 {
     let mut sampled = Sampled {
         unsampled: stock,

@@ -3,6 +3,7 @@ ghost use Rattle.journal.specs.Writes.{Runs};
 ghost use Rattle.journal.specs.declared.headers.Header.TheVariants as header;
 ghost use Rattle.plans.specs.Calls.{PerformsOnline};
 ghost use Rattle.plans.specs.Plans.{too_small, answering, open_answer, open_plan, used_by};
+ghost use Rattle.reader.specs.Viewed.{of_view};
 ghost use Rattle.startup.specs.Opens.{writes_of, Found, FoundBy, CountsRead, RestRead, ImageRead, ChangesRead, agrees_with};
 
 use crate::start::start;
@@ -118,7 +119,7 @@ fn counts_after<K: Kind, D: Device>(device: &D, pending: Pending) -> Result<Coun
 
 // The counts of the register in the view, which is read through.
 fn read_counts<K: Kind, D: Device>(view: &View<D>) -> Result<Counts, Fault>
-    ensures { CountsRead K.Kind.code K.Kind.reading (D.Device.meaning view.now.device.now) view.now.first view.now.targets.now result }
+    ensures { of_view (CountsRead K.Kind.code K.Kind.reading) D.Device view.now result }
 {
     let found = read_through::<K, D>(view)?;
     Ok(found.counters.get())
