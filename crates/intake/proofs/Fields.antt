@@ -1,11 +1,11 @@
 -- What a byte more, or a confirm, makes of a field that holds a line. Assumes nothing.
-use Rattle.std.proofs.Common.{◌≡◌, ℕ, suc, ◌+◌, ◌<◌, ◌≤◌, Bool, true, false, cond, eqb, ltb, leb, List, [], ◌∷◌, ◌++◌, length, take, set, replicate, Some, None, Err, Option, sym, refl, ap, ◌∙◌, subst, ⊎_elim, append_assoc, arith}
+use Rattle.std.proofs.Common.{◌≡◌, ℕ, suc, ◌+◌, ◌<◌, ◌≤◌, Bool, true, false, cond, eqb, ltb, leb, List, [], ◌∷◌, ◌++◌, length, take, set, replicate, Some, None, Err, sym, refl, ap, ◌∙◌, subst, ⊎_elim, append_assoc, arith}
 use lib.Seq.{take-set-lt, take-set-le}
 use Rattle.std.proofs.lemmas.List.{length-append, length-take, length-take-le, take-append-le, take-take, take_at, set_at, set_past}
 use Rattle.std.proofs.lemmas.Bool.{leb-true, leb-false, le-leb, lt-leb, cond-true, cond-false, cond_both, cases_lt, ltb-false, or_from}
 use Rattle.fault.specs.Refusals.{line_too_long}
 use Rattle.lines.specs.Meaning.{meaning}
-use Rattle.intake.specs.Lines.{Entry, entry_of}
+use Rattle.intake.specs.Lines.{entry_of}
 use Rattle.intake.specs.Field.{Holds, Scanned, state_of, zeros, confirm_of, scanned, scan_of}
 use Rattle.intake.specs.declared.field.State.{State}
 use Rattle.intake.specs.declared.field.State.TheVariants.{Empty, Filling, Overlong}
@@ -25,7 +25,7 @@ pub record Fits (line : List ℕ) (n : ℕ) : Type 0 where
   pub answers : confirm_of line ≡ Some (entry_of line)
 
 pub filling_fits : (line : List ℕ) (n : ℕ) → Filling n ≡ state_of line → Fits line n
-filling_fits [] n e = absurd (let z : ◌≡◌ {A = ℕ} 0 1 = cc in omega arith)
+filling_fits [] n e = cc
 filling_fits (x ∷ xs) n e = by_length (leb (length (x ∷ xs)) 100) refl
   where
     by_length : (b : Bool) → leb (length (x ∷ xs)) 100 ≡ b → Fits (x ∷ xs) n
@@ -34,20 +34,20 @@ filling_fits (x ∷ xs) n e = by_length (leb (length (x ∷ xs)) 100) refl
         record { count = cc; short = leb-true (length (x ∷ xs)) 100 t; answers = refl }
     by_length false t =
         let other : Filling n ≡ Overlong = e ∙ cond-false (leb (length (x ∷ xs)) 100) (Filling (length (x ∷ xs))) Overlong t in
-        absurd (let z : ◌≡◌ {A = ℕ} 0 1 = cc in omega arith)
+        cc
 
 pub record Exceeds (line : List ℕ) : Type 0 where
   pub long : 100 < length line
   pub answers : confirm_of line ≡ Some (entry_of line)
 
 pub overlong_exceeds : (line : List ℕ) → Overlong ≡ state_of line → Exceeds line
-overlong_exceeds [] e = absurd (let z : ◌≡◌ {A = ℕ} 0 1 = cc in omega arith)
+overlong_exceeds [] e = cc
 overlong_exceeds (x ∷ xs) e = by_length (leb (length (x ∷ xs)) 100) refl
   where
     by_length : (b : Bool) → leb (length (x ∷ xs)) 100 ≡ b → Exceeds (x ∷ xs)
     by_length true t =
         let other : Overlong ≡ Filling (length (x ∷ xs)) = e ∙ cond-true (leb (length (x ∷ xs)) 100) (Filling (length (x ∷ xs))) Overlong t in
-        absurd (let z : ◌≡◌ {A = ℕ} 0 1 = cc in omega arith)
+        cc
     by_length false t = record { long = leb-false (length (x ∷ xs)) 100 t; answers = refl }
 
 -- ---- a confirm
@@ -157,9 +157,3 @@ pub overlong_confirmed : (line bytes : List ℕ) → Holds line Overlong bytes �
 overlong_confirmed line bytes h =
     let x = overlong_exceeds line h.state_is in
     ap Some (sym (long_entry line x.long)) ∙ sym x.answers
-
--- a confirm that answered what it has to, and left the field empty
-pub confirmed : (line : List ℕ) (b : ℕ) (r : Option Entry) (state : State) (bytes : List ℕ)
-    → b ≡ 10 → r ≡ confirm_of line → state ≡ Empty → bytes ≡ zeros → Scanned line b r state bytes
-confirmed line b r state bytes is answers empty blank =
-    subst (λ m. Scanned line m r state bytes) (sym is) (record { answers = answers; holds = record { state_is = empty; bytes_are = blank } })

@@ -8,7 +8,7 @@ use Rattle.std.proofs.Math.Facts.{Fits-of_z, of_z-to_z}
 use Rattle.std.specs.Result.{result_ok}
 use Rattle.std.proofs.lemmas.Int.{ints}
 use Rattle.std.proofs.lemmas.Bool.Decides.{nat_tests}
-use Rattle.std.proofs.lemmas.Bool.{and_parts, and_from, cond-true, cond-false, false≢true}
+use Rattle.std.proofs.lemmas.Bool.{and_parts, and_from, cond-true, cond-false}
 use Rattle.octets.specs.Zeros.{every, blank, zeros}
 use Rattle.octets.proofs.Zeros.{zeros_blank, blank_zeros}
 use Rattle.items.specs.BoxForms.{box_form, box_reading, difference_form, ended, after_ward, with_difference, two_bytes}
@@ -95,7 +95,7 @@ pub record Ended (x : WardBox) (w : List ℕ) (d : Option ℤ) (rest : List ℕ)
 
 ended_if : (w : List ℕ) (d : Option ℤ) (rest : List ℕ) (x : WardBox) (t : Bool) → every blank rest ≡ t → cond t (result_ok (ward_box w d)) None ≡ Some x → Ended x w d rest
 ended_if w d rest x true h is = record { blanks = h; made = box_sections w d x (some_ok _ x is) }
-ended_if w d rest x false h is = let z : ◌≡◌ {A = ℕ} 0 1 = cc in absurd (omega arith)
+ended_if w d rest x false h is = cc
 
 ended_some : (w : List ℕ) (d : Option ℤ) (rest : List ℕ) (x : WardBox) → ended w d rest ≡ Some x → Ended x w d rest
 ended_some w d rest x = ended_if w d rest x (every blank rest) refl
@@ -136,9 +136,9 @@ behind_number w a b r x low high h =
     }
 
 with_if : (w r : List ℕ) (x : WardBox) (t : Bool) → two_bytes r ≡ t → cond t (ended w (Some (to_z w16 (slice_index r 0 + slice_index r 1 * 256))) (drop 2 r)) None ≡ Some x → Behind x w (1 ∷ r)
-with_if w r x false h is = let z : ◌≡◌ {A = ℕ} 0 1 = cc in absurd (omega arith)
-with_if w [] x true h is = absurd (false≢true h)
-with_if w (a ∷ []) x true h is = absurd (false≢true h)
+with_if w r x false h is = cc
+with_if w [] x true h is = cc
+with_if w (a ∷ []) x true h is = cc
 with_if w (a ∷ b ∷ r) x true h is =
     let two = and_parts (nat_le a 255) (nat_le b 255) (and_parts _ _ h).1 in
     behind_number w a b r x (leb-true a 255 two.0) (leb-true b 255 two.1) is
@@ -146,15 +146,15 @@ with_if w (a ∷ b ∷ r) x true h is =
 after_if : (w : List ℕ) (n : ℕ) (r : List ℕ) (x : WardBox) (s t : Bool) → (n == 0) ≡ s → (n == 1) ≡ t → cond s (ended w None r) (cond t (with_difference w r) None) ≡ Some x → Behind x w (n ∷ r)
 after_if w n r x true t h k is = subst (λ m. Behind x w (m ∷ r)) (sym (eqb-true n 0 h)) (behind_none w r x is)
 after_if w n r x false true h k is = subst (λ m. Behind x w (m ∷ r)) (sym (eqb-true n 1 k)) (with_if w r x (two_bytes r) refl is)
-after_if w n r x false false h k is = let z : ◌≡◌ {A = ℕ} 0 1 = cc in absurd (omega arith)
+after_if w n r x false false h k is = cc
 
 after_some : (w r : List ℕ) (x : WardBox) → after_ward w r ≡ Some x → Behind x w r
-after_some w [] x is = let z : ◌≡◌ {A = ℕ} 0 1 = cc in absurd (omega arith)
+after_some w [] x is = cc
 after_some w (n ∷ r) x is = after_if w n r x (n == 0) (n == 1) refl refl is
 
 exact_if : (s : List ℕ) (x : WardBox) (t : Bool) → (length s == 60) ≡ t → cond t (after_ward (front s) (behind s)) None ≡ Some x → s ≡ box_form x
 unfolding box_form
-exact_if s x false h is = let z : ◌≡◌ {A = ℕ} 0 1 = cc in absurd (omega arith)
+exact_if s x false h is = cc
 exact_if s x true h is =
     let long : length s ≡ 60 = eqb-true _ 60 h in
     let b = after_some (front s) (behind s) x is in

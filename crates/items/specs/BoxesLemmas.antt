@@ -1,10 +1,10 @@
 -- Boxes with the same sections are the same box.
 -- Assumes nothing.
-use Rattle.std.specs.Prelude.{◌≡◌, ℕ, Bool, true, false, List, [], ℤ, is_ok, None, Ok, Err, Option, Result, refl}
+use Rattle.std.specs.Prelude.{◌≡◌, ℕ, Bool, true, false, List, [], ℤ, None, Ok, Err, Option, Result, refl}
 use Rattle.std.proofs.Common.{sym, ap, ◌∙◌}
 use mathlib.Core.HLevel.{is_prop→PathP}
 use denote.Struct.Props.{props}
-use Rattle.std.proofs.lemmas.Bool.{both_ways, and_from, false≢true}
+use Rattle.std.proofs.lemmas.Bool.{and_from}
 use Rattle.fault.specs.declared.Fault.{Fault}
 use Rattle.items.specs.Boxes.{ward_box, made, of_sections, ward_text}
 use Rattle.items.specs.Lawful.{lawful_ward, lawful_difference, lawful_box}
@@ -29,7 +29,7 @@ same_box x y p q =
 
 made_lawful : (w : List ℕ) (d : Option ℤ) (t : Bool) (h : lawful_box w d ≡ t) (k : lawful_box w d ≡ true) (x : WardBox) → x.ward ≡ text 12 w → x.difference ≡ d → Ok x ≡ made w d t h
 made_lawful w d true h k x p q = ap Ok (same_box x (of_sections w d h) p q)
-made_lawful w d false h k x p q = absurd (both_ways _ h k)
+made_lawful w d false h k x p q = cc
 
 -- the box of lawful sections
 pub box_of : (w : List ℕ) (d : Option ℤ) → lawful_box w d ≡ true → (x : WardBox) → x.ward ≡ text 12 w → x.difference ≡ d → Ok x ≡ ward_box w d
@@ -60,7 +60,7 @@ made_sections w d true h x is = record {
   ward = sym (ap ward_part is) ∙ ward_text w d h;
   difference = sym (ap difference_part is);
 }
-made_sections w d false h x is = absurd (false≢true (ap is_ok is))
+made_sections w d false h x is = cc
 
 pub box_sections : (w : List ℕ) (d : Option ℤ) (x : WardBox) → ward_box w d ≡ Ok x → Sections x w d
 unfolding ward_box

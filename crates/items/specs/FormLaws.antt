@@ -30,4 +30,4 @@ length_split s m h k =
 
 pub some_ok : {A E : Type 0} (r : Result A E) (x : A) → result_ok r ≡ Some x → r ≡ Ok x
 some_ok (Ok y) x e = cc
-some_ok (Err y) x e = let z : ◌≡◌ {A = ℕ} 0 1 = cc in absurd (omega arith)
+some_ok (Err y) x e = cc

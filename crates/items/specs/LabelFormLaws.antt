@@ -119,7 +119,7 @@ exact_if s true h l is =
     let q = and_parts _ _ p.1 in
     as_padded s (eqb-true _ 60 test.0) test.1 (code_fits _ p.0) (batch_fits _ q.0) (expiry_fits _ q.1)
     ∙ sym (λ i. padded 60 (three (made.code i) (made.batch i) (made.expiry i)))
-exact_if s false h l is = let z : ◌≡◌ {A = ℕ} 0 1 = cc in absurd (omega arith)
+exact_if s false h l is = cc
 
 pub label_exact : (s : List ℕ) (l : Label) → label_reading s ≡ Some l → s ≡ label_form l
 unfolding label_reading

@@ -1,10 +1,10 @@
 -- Labels with the same sections are the same label.
 -- Assumes nothing.
-use Rattle.std.specs.Prelude.{◌≡◌, ℕ, Bool, true, false, List, [], is_ok, Ok, Err, Result, refl}
+use Rattle.std.specs.Prelude.{◌≡◌, ℕ, Bool, true, false, List, [], Ok, Err, Result, refl}
 use Rattle.std.proofs.Common.{sym, ap, ◌∙◌}
 use mathlib.Core.HLevel.{is_prop→PathP}
 use denote.Struct.Props.{props}
-use Rattle.std.proofs.lemmas.Bool.{both_ways, and_from, false≢true}
+use Rattle.std.proofs.lemmas.Bool.{and_from}
 use Rattle.fault.specs.declared.Fault.{Fault}
 use Rattle.fault.specs.Refusals.{unlawful}
 use Rattle.items.specs.Labels.{label, made, of_sections, first_unlawful, fits}
@@ -31,7 +31,7 @@ same_label l m p q r =
 
 made_lawful : (c b e : List ℕ) (t : Bool) (h : lawful_label c b e ≡ t) (k : lawful_label c b e ≡ true) (l : Label) → l.code ≡ text 14 c → l.batch ≡ text 20 b → l.expiry ≡ text 6 e → Ok l ≡ made c b e t h
 made_lawful c b e true h k l p q r = ap Ok (same_label l (of_sections c b e h) p q r)
-made_lawful c b e false h k l p q r = absurd (both_ways _ h k)
+made_lawful c b e false h k l p q r = cc
 
 -- the label of lawful sections
 pub label_of : (c b e : List ℕ) → lawful_label c b e ≡ true → (l : Label) → l.code ≡ text 14 c → l.batch ≡ text 20 b → l.expiry ≡ text 6 e → Ok l ≡ label c b e
@@ -60,14 +60,14 @@ made_sections c b e true h l is = record {
   batch = sym (ap (part (λ x. chars x.batch)) is) ∙ (fits c b e h).batch;
   expiry = sym (ap (part (λ x. chars x.expiry)) is) ∙ (fits c b e h).expiry;
 }
-made_sections c b e false h l is = absurd (false≢true (ap is_ok is))
+made_sections c b e false h l is = cc
 
 pub label_sections : (c b e : List ℕ) (l : Label) → label c b e ≡ Ok l → Sections l c b e
 unfolding label
 label_sections c b e = made_sections c b e (lawful_label c b e) refl
 
 made_refuses : (c b e : List ℕ) (t : Bool) (h : lawful_label c b e ≡ t) (f : Fault) → made c b e t h ≡ Err f → (k : ℕ) × (f ≡ unlawful k)
-made_refuses c b e true h f is = absurd (false≢true (sym (ap is_ok is)))
+made_refuses c b e true h f is = cc
 made_refuses c b e false h f is = (first_unlawful c b e, cc)
 
 -- sections that make no label are refused by 8

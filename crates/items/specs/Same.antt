@@ -8,6 +8,7 @@ use denote.Struct.Props.{props}
 use Rattle.std.proofs.lemmas.List.Edits.{paste_all}
 use Rattle.std.proofs.lemmas.List.{drop-replicate, ext_get_or}
 use Rattle.octets.specs.Zeros.{zeros}
+use Rattle.octets.proofs.Zeros.{zero_at}
 use Rattle.items.specs.Padded.{Padded}
 use Rattle.items.specs.Texts.{chars, padded, padded_is, text, text_at}
 use Rattle.items.specs.declared.text.Text.{Text}
@@ -48,13 +49,8 @@ made_text n xs h bytes e p =
     (ap (take (length xs)) e ∙ take-append_seam xs (zeros (n - length xs)) ∙ sym (text_at n xs h))
 
 -- the characters, and zeros behind them
-index_zeros : (n i : ℕ) → slice_index (zeros n) i ≡ 0
-index_zeros zero i = refl
-index_zeros (suc n) zero = refl
-index_zeros (suc n) (suc i) = index_zeros n i
-
 index_before_zeros : (xs : List ℕ) (n i : ℕ) → slice_index xs i ≡ slice_index (xs ++ zeros n) i
-index_before_zeros [] n i = sym (index_zeros n i)
+index_before_zeros [] n i = sym (zero_at n i)
 index_before_zeros (x ∷ xs) n zero = refl
 index_before_zeros (x ∷ xs) n (suc i) = index_before_zeros xs n i
 

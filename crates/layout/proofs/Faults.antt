@@ -1,7 +1,7 @@
 -- No fault at all is no fault in any part.
 -- Assumes nothing.
 use Rattle.std.proofs.Common.{◌≡◌, ℕ, zero, suc, ◌+◌, ◌<◌, Bool, true, false, List, Some, None, Ok, Option, refl, ap, ◌∙◌, arith}
-use Rattle.std.proofs.lemmas.Bool.{cond-true, false≢true}
+use Rattle.std.proofs.lemmas.Bool.{cond-true}
 use Rattle.fault.specs.declared.Damage.{Damage}
 use Rattle.fault.specs.declared.Damage.TheVariants as damage
 use Rattle.fault.specs.declared.Fault.{Fault}
@@ -10,7 +10,7 @@ use Rattle.std.specs.Option.{option_or}
 use Rattle.layout.specs.Reading.{unless, first_of, unless_fault, is_block, readable, bytes_of, block_fault}
 
 pub or_else_parts : (a b : Option Fault) → option_or a b ≡ None → (a ≡ None) × (b ≡ None)
-or_else_parts (Some f) b h = let z : ◌≡◌ {A = ℕ} 0 1 = cc in absurd (omega arith)
+or_else_parts (Some f) b h = cc
 or_else_parts None b h = (refl, h)
 
 pub or_else_none : (a b : Option Fault) → a ≡ None → b ≡ None → option_or a b ≡ None
@@ -18,7 +18,7 @@ or_else_none a b h k = ap (λ x. option_or x b) h ∙ k
 
 pub unless_passes : (t : Bool) (b : ℕ) (d : Damage) → unless t b d ≡ None → t ≡ true
 unless_passes true b d h = refl
-unless_passes false b d h = let z : ◌≡◌ {A = ℕ} 0 1 = cc in absurd (omega arith)
+unless_passes false b d h = cc
 
 pub unless_none : (t : Bool) (b : ℕ) (d : Damage) → t ≡ true → unless t b d ≡ None
 unless_none t b d h = cond-true t _ _ h
@@ -38,14 +38,14 @@ first_of_none f i (suc n) h =
     (first_of_none f (i + 1) n (λ j k. let later : f (i + suc j) ≡ None = h (suc j) (omega arith) in ap f (omega arith) ∙ later))
 
 pub ok_none : {A : Type 0} (f : Option Fault) (a b : A) → unless_fault f a ≡ Ok b → (f ≡ None) × (a ≡ b)
-ok_none (Some f) a b h = let z : ◌≡◌ {A = ℕ} 0 1 = cc in absurd (omega arith)
+ok_none (Some f) a b h = cc
 ok_none None a b h = (refl, cc)
 
 -- ---- blocks
 
 readable_is : (e : Entry) → readable e ≡ true → (e ≡ Some (bytes_of e)) × (is_block (bytes_of e) ≡ true)
 readable_is (Some xs) h = (refl, h)
-readable_is None h = absurd (false≢true h)
+readable_is None h = cc
 
 -- a block that reads is its bytes
 pub block_read : (blocks : ℕ → Entry) (b : ℕ) → block_fault blocks b ≡ None → (blocks b ≡ Some (bytes_of (blocks b))) × (is_block (bytes_of (blocks b)) ≡ true)

@@ -1,7 +1,7 @@
 -- A head, written piece by piece and read test by test.
 -- Assumes nothing.
-use Rattle.std.proofs.Common.{leb, ltb, ◌&&◌, ◌+◌, ◌*◌, ◌≡◌, ℕ, ◌%◌, ◌^◌, ◌<◌, Bool, true, false, eqb, List, [], ◌∷◌, get_or, Ok, Err, Result, sym, refl, ap, ◌∙◌, ⊎_elim, arith}
-use Rattle.std.proofs.lemmas.Bool.{and_parts, ltb-true, eq-eqb, ne_eqb, cases_Bool}
+use Rattle.std.proofs.Common.{leb, ltb, ◌&&◌, ◌+◌, ◌*◌, ◌≡◌, ℕ, ◌%◌, ◌^◌, ◌<◌, Bool, true, false, eqb, List, [], ◌∷◌, get_or, Ok, Err, Result, sym, refl, ap, ◌∙◌, arith}
+use Rattle.std.proofs.lemmas.Bool.{and_parts, ltb-true, eq-eqb, ne_eqb, false_from_ne_true}
 use Rattle.fault.specs.Refusals.{not_register}
 use Rattle.fault.specs.declared.Damage.TheVariants as damage
 use Rattle.fault.specs.declared.Fault.{Fault}
@@ -56,9 +56,6 @@ test_4 a b c d e h = (and_parts d e (and_parts c (d && e) (and_parts b (c && (d 
 pub calls_fit : (n : Counts) → in_range n ≡ true → n.calls < 2 ^ 32
 calls_fit n h = ltb-true n.calls (2 ^ 32) (test_4 _ _ (leb (n.size + (n.c1 + n.c2)) 32768) (ltb n.calls (2 ^ 32)) (leb n.words (64 * n.calls)) h)
 
-not_so : (t : Bool) → (t ≡ true → ⊥) → t ≡ false
-not_so t h = ⊎_elim (λ e. absurd (h e)) (λ e. e) (cases_Bool t)
-
 -- the five tests of a head
 abbrev read : Counts → Bool → Bool → Bool → Bool → Bool → Result Counts Fault
 read n marks kind range sum own =
@@ -110,7 +107,7 @@ module _ (code : ℕ) (xs : List ℕ) where
 
       pub head_range : (f : Fault) → f ≡ not_register 0 damage.Range → (range ≡ true → ⊥) → Err f ≡ head_answer
       unfolding head_fault
-      head_range f is never = ap Err is ∙ sym (λ i. read (counts_in xs) (m i) (is_known i) (not_so range never i) sum own)
+      head_range f is never = ap Err is ∙ sym (λ i. read (counts_in xs) (m i) (is_known i) (false_from_ne_true range never i) sum own)
 
       pub head_sum : (f : Fault) → Err f ≡ unless_fault (counts_fault (counts_in xs)) (counts_in xs) → Err f ≡ head_answer
       unfolding head_fault

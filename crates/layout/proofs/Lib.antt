@@ -7,7 +7,6 @@ pub mod HeadSteps
 pub mod Joining
 pub mod KindCodes
 pub mod LayoutLaws
-pub mod Places
 pub mod SetLaws
 pub mod SlotChanges
 pub mod SlotLaws

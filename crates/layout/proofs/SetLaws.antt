@@ -1,30 +1,23 @@
 -- A set of numbers in bytes: one number looked up, put in and taken out.
 -- Assumes nothing.
-use Rattle.std.proofs.Common.{◌≡◌, ℕ, zero, suc, ◌+◌, ◌-◌, ◌*◌, ◌/◌, ◌%◌, ◌^◌, ◌<◌, ◌≤◌, Bool, true, false, not, ◌&&◌, ◌||◌, eqb, ◌≢◌, List, length, get_or, set, Decides, sym, refl, ap, ◌∙◌, ⊎_elim, arith}
+use Rattle.std.proofs.Common.{◌≡◌, ℕ, ◌+◌, ◌-◌, ◌*◌, ◌/◌, ◌%◌, ◌^◌, ◌<◌, ◌≤◌, Bool, false, not, ◌&&◌, ◌||◌, eqb, ◌≢◌, List, length, get_or, set, Decides, sym, ap, ◌∙◌, ⊎_elim, arith}
 use lib.Bits.{bit_and, bit_or}
 use Rattle.std.proofs.lemmas.Nat.{one_shl, pow_below}
 use Rattle.std.proofs.lemmas.List.{ext_get_or, get_or-set_same, get_or-set_other, get_or_past}
 use Rattle.std.proofs.lemmas.Bool.{cases_eq, eq-eqb, ne_eqb}
 use Rattle.std.proofs.lemmas.Bool.Decides.{nat_tests, Decides-like}
+use Rattle.std.proofs.Math.Bool.{or_comm, and_comm}
 use Rattle.octets.specs.Zeros.{zeros}
+use Rattle.octets.proofs.Zeros.{zero_at}
 use Rattle.pairing.specs.Reservoir.{with, without}
 use Rattle.layout.specs.Layout.{stock_block}
 use Rattle.layout.specs.Reading.{bit_at, in_set}
 use Rattle.layout.proofs.BitLaws.{zero_bit, bit_read, or_bit, and_bit, pow_bit, flip_bit}
-use Rattle.layout.proofs.StockLaws.{byte_back, packed_like, length_stock, stock_byte_lem}
-
-get_d_zeros : (n i : ℕ) → get_or (zeros n) i 0 ≡ 0
-get_d_zeros zero i = refl
-get_d_zeros (suc n) zero = refl
-get_d_zeros (suc n) (suc i) = get_d_zeros n i
+use Rattle.layout.proofs.StockLaws.{byte_back, set_past, packed_like, length_stock, stock_byte_lem}
 
 pub none_in_zeros : (n p : ℕ) → in_set (zeros n) p ≡ false
 unfolding in_set
-none_in_zeros n p = ap (λ b. bit_at b (p % 8)) (get_d_zeros n (p / 8)) ∙ zero_bit (p % 8)
-
-pub none_past : (bytes : List ℕ) (p : ℕ) → length bytes ≤ p / 8 → in_set bytes p ≡ false
-unfolding in_set
-none_past bytes p h = ap (λ b. bit_at b (p % 8)) (get_or_past bytes (p / 8) 0 h) ∙ zero_bit (p % 8)
+none_in_zeros n p = ap (λ b. bit_at b (p % 8)) (zero_at n (p / 8)) ∙ zero_bit (p % 8)
 
 -- the bit as code reads it
 pub looked_up : (bytes : List ℕ) (p at byte : ℕ) → at ≡ p / 8 → byte ≡ get_or bytes at 0 → eqb (bit_and (byte / 2 ^ (p % 8)) 1) 1 ≡ in_set bytes p
@@ -52,18 +45,6 @@ same_bit p q e = grind (arith, nat_tests)
 
 shifted : (t : ℕ) → t < 8 → (1 * 2 ^ t) % 256 ≡ 2 ^ t
 shifted t h = one_shl t 8 h
-
-or_comm : (a b : Bool) → (a || b) ≡ (b || a)
-or_comm true true = refl
-or_comm true false = refl
-or_comm false true = refl
-or_comm false false = refl
-
-and_comm : (a b : Bool) → (a && b) ≡ (b && a)
-and_comm true true = refl
-and_comm true false = refl
-and_comm false true = refl
-and_comm false false = refl
 
 module _ (bytes : List ℕ) (q at : ℕ) (place : at ≡ q / 8) (h : at < length bytes) where
   pub put_in : (p : ℕ) → in_set (set bytes at (bit_or (get_or bytes at 0) ((1 * 2 ^ (q % 8)) % 256))) p ≡ with (in_set bytes) q p
@@ -105,7 +86,7 @@ module _ (bytes : List ℕ) (q at : ℕ) (place : at ≡ q / 8) (h : at < length
 pub without_past : (bytes : List ℕ) (q : ℕ) → length bytes ≤ q / 8 → (p : ℕ) → in_set bytes p ≡ without (in_set bytes) q p
 without_past bytes q h p =
     ⊎_elim
-    (λ e. ap (in_set bytes) e ∙ none_past bytes q h ∙ ap (λ t. not t && in_set bytes p) (sym (eq-eqb p q e)))
+    (λ e. ap (in_set bytes) e ∙ set_past bytes q (omega (arith, h)) ∙ ap (λ t. not t && in_set bytes p) (sym (eq-eqb p q e)))
     (λ ne. ap (λ t. not t && in_set bytes p) (sym (ne_eqb p q ne)))
     (cases_eq p q)
 
@@ -122,7 +103,7 @@ decides_same xs ys long left right r d = Decides-like r (λ e p. ap (λ l. in_se
 pub zeros_past : (bytes : List ℕ) (j : ℕ) → ((i : ℕ) → get_or bytes i 0 < 256) → length bytes ≤ 512 * j → zeros 512 ≡ stock_block (in_set bytes) j
 zeros_past bytes j small h =
     ext_get_or 0 (zeros 512) (stock_block (in_set bytes) j) (sym (length_stock (in_set bytes) j)) (λ i l.
-    get_d_zeros 512 i
+    zero_at 512 i
     ∙ sym (get_or_past bytes (512 * j + i) 0 (omega arith))
     ∙ sym (byte_back bytes (512 * j + i) (small (512 * j + i)))
     ∙ sym (stock_byte_lem (in_set bytes) j i l))

@@ -2,7 +2,7 @@
 -- Assumes nothing.
 use Rattle.std.proofs.Common.{◌≡◌, ℕ, zero, suc, ◌+◌, ◌-◌, ◌*◌, ◌/◌, ◌%◌, ◌<◌, ◌≤◌, Bool, true, false, not, eqb, ltb, List, [], ◌∷◌, ◌++◌, length, take, drop, is_some, Some, None, Option, sym, refl, ap, ◌∙◌, subst, ⊎_elim, zero-add, arith, length-drop, length-take}
 use lib.ListN.{length-replicate}
-use Rattle.std.proofs.lemmas.Bool.{and_parts, and_from, eqb-true, eq-eqb, lt-ltb, le-ltb, ltb-true, cond-true, cond-false, or_parts, or_from, not-true, not_from_false, false≢true, cases_lt, cases_Bool, not_from_true, ne_eqb, both_ways}
+use Rattle.std.proofs.lemmas.Bool.{and_parts, and_from, eqb-true, eq-eqb, lt-ltb, le-ltb, ltb-true, cond-true, cond-false, or_parts, or_from, not-true, not_from_false, cases_lt, cases_Bool, not_from_true, ne_eqb, both_ways}
 use Rattle.fault.specs.declared.Damage.TheVariants as damage
 use Rattle.octets.specs.Numbers.{little, number_at}
 use Rattle.octets.specs.Zeros.{every, blank, zeros}
@@ -282,7 +282,7 @@ module _ {X : Type 0} (form : X → List ℕ) (reading : List ℕ → Option X) 
 
 some_is : {X : Type 0} (o : Option X) → is_some o ≡ true → (x : X) × (o ≡ Some x)
 some_is (Some x) h = (x, refl)
-some_is None h = absurd (false≢true h)
+some_is None h = cc
 
 -- the bytes of a slot in a block
 slot_in_bytes : (blocks : ℕ → Entry) (i : ℕ) → is_block (bytes_of (blocks (14 + i / 8))) ≡ true → (length (slot_in blocks i) ≡ 64) × (Under256 (slot_in blocks i))

@@ -14,6 +14,7 @@ use Rattle.pairing.proofs.Sums.{count_like}
 use Rattle.pairing.proofs.Stock.{bit_most, with_other, without_other}
 use Rattle.layout.specs.Layout.{packed, stock_byte, stock_block, joined}
 use Rattle.layout.specs.Reading.{bit_at, in_set, ones_in, is_block, bytes_of, stock_in}
+use Rattle.layout.proofs.BitLaws.{zero_bit}
 use Rattle.layout.proofs.Joining.{length_joined, get_d_joined, joined_under, joined_shift, joined_like}
 use Rattle.octets.proofs.Under.{Under256, under_at, under_from, under_rest}
 use Rattle.layout.proofs.Blocks.{block_length, block_under, block_from}
@@ -69,10 +70,6 @@ pub packed_lt : (s : ℕ → Bool) (p n : ℕ) → packed s p n < 2 ^ n
 packed_lt s p zero = omega (arith, pow-zero 2)
 packed_lt s p (suc n) =
     let e = packed_lt s (p + 1) n in let b = bit_most (s p) in let q : 2 ^ suc n ≡ 2 ^ n * 2 = pow-suc 2 n in omega (arith, e, b, q)
-
-zero_bit : (t : ℕ) → bit_at 0 t ≡ false
-zero_bit zero = refl
-zero_bit (suc t) = zero_bit t
 
 -- ---- bytes and sets
 

@@ -2,7 +2,7 @@
 use Rattle.std.proofs.Common.{◌≡◌, ℕ, zero, suc, ◌+◌, ◌-◌, ◌<◌, ◌≤◌, Bool, true, false, cond, eqb, ◌⊎◌, List, [], ◌∷◌, ◌++◌, length, get_or, take, drop, replicate, Ok, Err, Result, sym, refl, ap, ◌∙◌, subst, inl, inr, append_assoc, append-nil, arith, length-append}
 use lib.ListN.{length-replicate}
 use Rattle.std.proofs.ByRecursion.{All-append}
-use Rattle.std.proofs.lemmas.List.{take_all, take_at, drop_at}
+use Rattle.std.proofs.lemmas.List.{take_at, drop_at}
 use Rattle.std.proofs.lemmas.Bool.{cond-true, cond-false, eqb-true, eqb-false, eq-eqb, ne_eqb}
 use Rattle.fault.specs.declared.Fault.{Fault}
 use Rattle.lines.specs.declared.Field.{Field}
@@ -69,25 +69,14 @@ front_shape f at s n e = let (a, b, F) = found f at s in go a b F F.cases
     go a b F (inl w) =
         let same : length a ≡ n = let is : Ok (length a) ≡ Ok n = sym w.1 ∙ e in cc in
         subst (Written f) (sym (ap (take n) F.whole ∙ take_at a b n same)) w.0
-    go a b F (inr w) = let z : ◌≡◌ {A = ℕ} 0 1 = (let is : misfit (at + length a) ≡ Ok n = sym w.1 ∙ e in cc) in absurd (omega arith)
+    go a b F (inr w) = cc
 
 pub spaced_written : (f : Field) (at : ℕ) (s x : List ℕ) (n : ℕ) (t : List ℕ) → spaced f at s ≡ Ok (x, n, t) → Written f x
 spaced_written f at s x n t e = go (front f at s) refl e
   where
     go : (r : Result ℕ Fault) → front f at s ≡ r → then r (λ n. behind (take n s) (at + n) (drop n s)) ≡ Ok (x, n, t) → Written f x
     go (Ok m) is e = subst (Written f) (sym (behind_first (take m s) (at + m) (drop m s)) ∙ ap (λ r. first r (take m s)) e) (front_shape f at s m is)
-    go (Err g) is e = let z : ◌≡◌ {A = ℕ} 0 1 = cc in absurd (omega arith)
-
-pub last_written : (f : Field) (at : ℕ) (s x : List ℕ) → last f at s ≡ Ok x → Written f x
-last_written f at s x e = go (front f at s) refl e
-  where
-    all : (m : ℕ) (d : Bool) → eqb m (length s) ≡ d → Written f (take m s) → cond d (Ok s) (misfit (at + m)) ≡ Ok x → Written f x
-    all m true d w e = subst (Written f) (take_all m s (omega (arith, eqb-true m (length s) d)) ∙ cc) w
-    all m false d w e = let z : ◌≡◌ {A = ℕ} 0 1 = cc in absurd (omega arith)
-
-    go : (r : Result ℕ Fault) → front f at s ≡ r → then r (λ n. cond (eqb n (length s)) (Ok s) (misfit (at + n))) ≡ Ok x → Written f x
-    go (Ok m) is e = all m (eqb m (length s)) refl (front_shape f at s m is) e
-    go (Err g) is e = let z : ◌≡◌ {A = ℕ} 0 1 = cc in absurd (omega arith)
+    go (Err g) is e = cc
 
 -- ---- a text that has the fields is cut into them
 
@@ -159,9 +148,6 @@ Tells f gs at s =
 -- the two ways in which a field may stand at the front of s
 abbrev Front : Field → ℕ → List ℕ → List ℕ → Type 0
 Front f at s a = (Written f a × (front f at s ≡ Ok (length a))) ⊎ (Short f a × (front f at s ≡ misfit (at + length a)))
-
-no_cons : {y : ℕ} {t : List ℕ} → ◌≡◌ {A = List ℕ} [] (y ∷ t) → ⊥
-no_cons {y} {t} e = let z : ◌≡◌ {A = ℕ} 0 (suc (length t)) = ap length e in omega arith
 
 longer : (a : List ℕ) (y : ℕ) (t : List ℕ) → length a ≡ length (a ++ y ∷ t) → ⊥
 longer a y t e = omega (arith, length-append a (y ∷ t))

@@ -27,9 +27,6 @@ record Stops (s a b : List ℕ) : Type 0 where
   begins : Begins a
   local : (y : ℕ) (t r : List ℕ) → b ≡ y ∷ t → meaning (a ++ y ∷ r) ≡ misfit (length a)
 
-no_cons : {y : ℕ} {t : List ℕ} → ◌≡◌ {A = List ℕ} [] (y ∷ t) → ⊥
-no_cons {y} {t} e = let z : ◌≡◌ {A = ℕ} 0 (suc (length t)) = ap length e in omega arith
-
 -- s is a transaction by its shape, or stops
 abbrev Line : List ℕ → Type 0
 Line s = Shaped s ⊎ ((a : List ℕ) × (b : List ℕ) × Stops s a b)
@@ -58,7 +55,7 @@ module _ (letter : ℕ) (gs : List Field) (of : List (List ℕ) → Result Trans
       )
 
   lettered : (s : List ℕ) → Line (letter ∷ s)
-  lettered [] = inr (letter ∷ [], [], record { whole = refl; stops = alone; begins = begins_letter; local = λ y t r e. absurd (no_cons e) })
+  lettered [] = inr (letter ∷ [], [], record { whole = refl; stops = alone; begins = begins_letter; local = λ y t r e. cc })
   lettered (b ∷ s) = go (eqb b 32) refl
     where
       go : (d : Bool) → eqb b 32 ≡ d → Line (letter ∷ b ∷ s)
@@ -102,7 +99,7 @@ begins_none = (84 ∷ 32 ∷ 48 ∷ [], inl (48 ∷ [], (refl, inl ((refl, tt), 
 
 line : (s : List ℕ) → Line s
 unfolding meaning
-line [] = inr ([], [], record { whole = refl; stops = refl; begins = begins_none; local = λ y t r e. absurd (no_cons e) })
+line [] = inr ([], [], record { whole = refl; stops = refl; begins = begins_none; local = λ y t r e. cc })
 line (c ∷ s) = go (eqb c 83) refl (eqb c 84) refl
   where
     go : (d : Bool) → eqb c 83 ≡ d → (e : Bool) → eqb c 84 ≡ e → Line (c ∷ s)

@@ -1,23 +1,15 @@
 -- What the code finds by length and index, as the definitions of what a line says have it.
 use Rattle.std.proofs.Common.{◌≡◌, ℕ, suc, ◌+◌, ◌-◌, ◌<◌, ◌≤◌, List, [], ◌∷◌, length, get_or, take, drop, Ok, sym, refl, ap, ◌∙◌, arith}
 use Rattle.std.proofs.lemmas.List.{take_all}
-use Rattle.std.proofs.lemmas.Bool.{cond-true, cond-false, eq-eqb, ne_eqb}
+use Rattle.std.proofs.lemmas.Bool.{cond-false, ne_eqb}
 use Rattle.lines.specs.declared.Field.{Field}
 use Rattle.lines.specs.Meaning.{then, misfit, front, behind, spaced}
-
-behind_space : (x : List ℕ) (at : ℕ) (t : List ℕ) → 0 < length t → get_or t 0 0 ≡ 32 → behind x at t ≡ Ok (x, at + 1, take (length t - 1) (drop 1 t))
-behind_space x at [] h e = absurd (omega arith)
-behind_space x at (b ∷ t) h e = cond-true _ _ _ (eq-eqb b 32 e) ∙ ap (λ u. Ok (x, at + 1, u)) (sym (take_all _ t (omega arith)))
 
 behind_other : (x : List ℕ) (at : ℕ) (t : List ℕ) → (0 < length t → get_or t 0 0 ≡ 32 → ⊥) → behind x at t ≡ misfit at
 behind_other x at [] h = refl
 behind_other x at (b ∷ t) h = cond-false _ _ _ (ne_eqb b 32 (λ e. h (omega arith) e))
 
 module _ (f : Field) (at : ℕ) (s : List ℕ) (n : ℕ) (ends : Ok n ≡ front f at s) where
-  pub spaced_ok : (x t : List ℕ) → x ≡ take n s → t ≡ drop n s → 0 < length t → get_or t 0 0 ≡ 32 → spaced f at s ≡ Ok (x, at + n + 1, take (length t - 1) (drop 1 t))
-  spaced_ok x t is back h e =
-      ap (λ r. then r (λ n. behind (take n s) (at + n) (drop n s))) (sym ends) ∙ (λ i. behind (sym is i) (at + n) (sym back i)) ∙ behind_space x (at + n) t h e
-
   pub spaced_misfit : (t : List ℕ) → t ≡ drop n s → (0 < length t → get_or t 0 0 ≡ 32 → ⊥) → spaced f at s ≡ misfit (at + n)
   spaced_misfit t back h =
       ap (λ r. then r (λ n. behind (take n s) (at + n) (drop n s))) (sym ends) ∙ ap (behind (take n s) (at + n)) (sym back) ∙ behind_other (take n s) (at + n) t h

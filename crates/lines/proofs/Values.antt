@@ -3,7 +3,7 @@ use Rattle.std.proofs.Common.{◌≡◌, ℕ, zero, suc, ◌+◌, ◌*◌, ◌^�
 use native.Mathlib.Nat.{pow-succ'}
 use Rattle.std.specs.List.{AllByRecursion}
 use Rattle.std.proofs.ByRecursion.{All-get_or}
-use Rattle.std.proofs.lemmas.Bool.{and_parts, leb-true, false≢true}
+use Rattle.std.proofs.lemmas.Bool.{and_parts, leb-true}
 use Rattle.lines.specs.declared.Field.TheVariants.{Number}
 use Rattle.std.specs.Char.{is_ascii_digit}
 use Rattle.lines.specs.Grammar.{Written}
@@ -11,7 +11,7 @@ use Rattle.lines.specs.Grammar.{Written}
 -- the digits of a number, of which there are at most five
 pub digits : (xs : List ℕ) → Written Number xs → AllByRecursion (λ b. is_ascii_digit b ≡ true) xs × (length xs ≤ 5)
 digits xs (inl w) = (w.0, w.2)
-digits xs (inr w) = absurd (false≢true w.0)
+digits xs (inr w) = cc
 
 -- the byte at a place of a number, and how far that place is from the front
 pub digit_at : (xs : List ℕ) → Written Number xs → (i d : ℕ) → i < length xs → (48 ≤ get_or xs i d) × (get_or xs i d ≤ 57) × (i ≤ 4)

@@ -12,10 +12,6 @@ use Rattle.octets.proofs.Zeros.{blank_zeros}
 
 -- ---- there and back
 
-pub length_little : (c n : ℕ) → length (little c n) ≡ c
-length_little zero n = refl
-length_little (suc c) n = ap suc (length_little c (n / 256))
-
 pub little_bytes : (c n : ℕ) → Under256 (little c n)
 little_bytes zero n = refl
 little_bytes (suc c) n = and_from _ _ (lt-ltb (n % 256) 256 (omega arith)) (little_bytes c (n / 256))

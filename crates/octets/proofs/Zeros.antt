@@ -1,8 +1,14 @@
 -- Zeros.
 -- Assumes nothing.
-use Rattle.std.proofs.Common.{◌≡◌, ℕ, zero, suc, true, eqb, List, [], ◌∷◌, length, refl, eqb-true}
+use Rattle.std.proofs.Common.{◌≡◌, ℕ, zero, suc, true, eqb, List, [], ◌∷◌, length, get_or, refl, eqb-true}
 use Rattle.std.proofs.lemmas.Bool.{and_parts}
 use Rattle.octets.specs.Zeros.{zeros, every, blank}
+
+-- each is 0, and so is what is read past them
+pub zero_at : (n i : ℕ) → get_or (zeros n) i 0 ≡ 0
+zero_at zero i = refl
+zero_at (suc n) zero = refl
+zero_at (suc n) (suc i) = zero_at n i
 
 pub zeros_blank : (n : ℕ) → every blank (zeros n) ≡ true
 zeros_blank zero = refl

@@ -3,7 +3,6 @@ pub mod Examples
 pub mod Following
 pub mod Keeping
 pub mod Lawfulness
-pub mod Moved
 pub mod Slots
 pub mod Stock
 pub mod Sums

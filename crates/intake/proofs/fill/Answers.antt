@@ -25,11 +25,8 @@ loop-byte-preserved c =
       ],
     )
 
-pub returns : goal.returns
-returns c =
-    let f = c.loop-byte.invariant.1 in
-    record {
-      same = c.loop-byte.invariant.0;
-      count = count_all _ _ _ _ _ _ _ f c.loop-byte-test.false;
-      entries = filled_all _ _ _ _ _ _ _ f c.loop-byte-test.false;
-    }
+pub returns-clause-count : goal.returns-clause-count
+returns-clause-count c = count_all _ _ _ _ _ _ _ c.loop-byte.invariant.1 c.loop-byte-test.false
+
+pub returns-clause-entries : goal.returns-clause-entries
+returns-clause-entries c = filled_all _ _ _ _ _ _ _ c.loop-byte.invariant.1 c.loop-byte-test.false

@@ -16,10 +16,7 @@ module _ {F : Type 0} (g : Mut F (ℕ × Unit {0}) ℕ) (P : ℕ → ℕ → Typ
       (λ same. let e : i ≡ k = omega arith in subst (λ j. P j (get_or ys j 0)) e (subst (P i) (sym (here.1 0)) now.1))
       (cases_lt i k)
 
-pub returns : goal.returns
-returns g c =
-    let items = c.from_fn.ensures.items in
-    record {
-      long = items.long;
-      each = λ k h. made _ (λ i y. y ≡ get_or c.from-tail.result.now i 0) _ (λ i y q called. search rules) _ 0 _ items.each k (omega arith) (omega arith) ∙ ap (λ l. get_or l k 0) c.from-tail.ensures;
-    }
+pub returns-clause-each : goal.returns-clause-each
+returns-clause-each g c = λ k h.
+    made _ (λ i y. y ≡ get_or c.from-tail.result.now i 0) _ (λ i y q called. search rules) _ 0 _ c.from_fn.ensures.items.each k (omega arith) (omega arith)
+    ∙ ap (λ l. get_or l k 0) c.from-tail.ensures

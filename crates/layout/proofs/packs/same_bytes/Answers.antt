@@ -4,10 +4,7 @@ use Rattle.layout.proofs.SetLaws.{decides_same}
 use Rattle.layout.proofs.packs.same_bytes.Goals as goal
 use Rattle.std.proofs.lemmas.Bool.Decides.{Decides-eqb}
 
-pub returns : goal.returns
-returns c =
-    let bytes = slice_eq-Decides Decides-eqb c.args.left.now c.args.right.now c.eq.result c.eq.ensures in
-    record {
-      numbers = decides_same c.args.left.now c.args.right.now (c.told-left ∙ sym c.told-right) c.fits-left c.fits-right c.eq.result bytes;
-      bytes = bytes;
-    }
+pub returns-clause-numbers : goal.returns-clause-numbers
+returns-clause-numbers c =
+    decides_same c.args.left.now c.args.right.now (c.told-left ∙ sym c.told-right) c.fits-left c.fits-right c.eq.result
+    (slice_eq-Decides Decides-eqb c.args.left.now c.args.right.now c.eq.result c.eq.ensures)
