@@ -95,16 +95,6 @@ module _ {d : Disk} {b : ℕ} {new : List ℕ} where
   wrote_err (offline h o) l p = absurd (both_ways d.online o p)
   wrote_err (lost m h o) l p = (m, refl, refl, refl)
 
-  -- a write without an event changes nothing
-  pub wrote_nothing : {a : Result (Unit {0}) DeviceError} {d' : Disk} → Wrote d b new a [] d' → d' ≡ d
-  wrote_nothing (outside h) = refl
-  wrote_nothing (offline h o) = refl
-
-  -- after Offline the device is offline
-  pub wrote_offline : {es : List Event} {d' : Disk} → Wrote d b new (Err Offline) es d' → d'.online ≡ false
-  wrote_offline (offline h o) = o
-  wrote_offline (lost m h o) = refl
-
 -- the events decide the answer and the disk
 pub wrote_same :
     {d : Disk} {b : ℕ} {new : List ℕ} {a a' : Result (Unit {0}) DeviceError} {es : List Event} {d₁ d₂ : Disk} →
@@ -171,13 +161,6 @@ brought_ok came = (refl, refl)
 pub brought_err : {d : Disk} {x : DeviceError} {es : List Event} {d' : Disk} → BroughtOnline d (Err x) es d' → (x ≡ Offline) × (es ≡ online_refused ∷ []) × (d' ≡ turned d false)
 brought_err stayed = (refl, refl, refl)
 
--- the events decide the answer and the disk
-pub brought_same :
-    {d : Disk} {a a' : Result (Unit {0}) DeviceError} {es : List Event} {d₁ d₂ : Disk} →
-    BroughtOnline d a es d₁ → BroughtOnline d a' es d₂ → (a ≡ a') × (d₁ ≡ d₂)
-brought_same came came = (refl, refl)
-brought_same stayed stayed = (refl, refl)
-
 pub brings : {d : Disk} {a : Result (Unit {0}) DeviceError} {es : List Event} {d' : Disk} → BroughtOnline d a es d' → Brings d a d'
 brings {es = es} t = record { events = es; brought = t; fixed = ap length (brought_entries t) }
 
@@ -187,7 +170,7 @@ brings_done {d} {d'} e = brings (subst (λ x. BroughtOnline d (Ok tt) (online_do
 pub brings_refused : {d d' : Disk} → d' ≡ turned d false → Brings d (Err Offline) d'
 brings_refused {d} {d'} e = brings (subst (λ x. BroughtOnline d (Err Offline) (online_refused ∷ []) x) (sym e) stayed)
 
--- ---- the exit of a `?` over a device's answer
+-- ---- the exit of a `?`
 
-pub exit_is : {T : Type 0} {r : Result T DeviceError} {x : DeviceError} → IsErrAnd r (λ y. y ≡ x) → r ≡ Err x
+pub exit_is : {T E : Type 0} {r : Result T E} {x : E} → IsErrAnd r (λ y. y ≡ x) → r ≡ Err x
 exit_is {T} {r} {x} h = let p = err_from_is_err_and r h in p.1 ∙ ap Err p.2

@@ -1,7 +1,6 @@
 -- The laws of the journal header.
 -- Assumes nothing.
-use Rattle.std.specs.Option.{ok_or}
-use Rattle.std.proofs.Common.{◌≡◌, ℕ, ◌+◌, ◌^◌, ◌<◌, ◌≤◌, Bool, true, false, cond, ◌&&◌, eqb, ltb, leb, List, [], ◌∷◌, ◌++◌, length, get_or, take, drop, Some, None, codes, Option, sym, refl, ap, ◌∙◌, subst, append-nil, arith, eq-eqb, eqb-true, le-leb, leb-true, Ok, Err}
+use Rattle.std.proofs.Common.{◌≡◌, ℕ, ◌+◌, ◌^◌, ◌<◌, ◌≤◌, Bool, true, false, cond, ◌&&◌, eqb, ltb, leb, List, [], ◌∷◌, ◌++◌, length, get_or, take, drop, Some, None, codes, Option, sym, refl, ap, ◌∙◌, subst, append-nil, arith, eq-eqb, eqb-true, le-leb, leb-true}
 use Rattle.std.specs.List.{AllByRecursion}
 use Rattle.std.specs.Str.{bytes_eq}
 use Rattle.std.proofs.lemmas.Slice.Eq.{bytes_eq-Decides}
@@ -113,18 +112,10 @@ fits p h =
 
 -- ---- a marked header is read by its fields
 
-pub read_marked :
+read_marked :
     (bs : List ℕ) (o : Option Pending) → bytes_eq bs free_bytes ≡ false → marked bs ≡ true → pending_of (fields_of bs) ≡ o →
     bytes_header bs ≡ or_unlawful o
 read_marked bs o other m is = cond-false _ _ _ other ∙ cond-true _ _ _ m ∙ ap or_unlawful is
-
-pub ok_or_some : {T E : Type 0} (o : Option T) (e : E) {x : T} → ok_or o e ≡ Ok x → o ≡ Some x
-ok_or_some None e h = absurd cc
-ok_or_some (Some y) e h = cc
-
-pub ok_or_none : {T E : Type 0} (o : Option T) (e : E) {x : E} → ok_or o e ≡ Err x → o ≡ None
-ok_or_none None e h = refl
-ok_or_none (Some y) e h = absurd cc
 
 -- ---- a header fills its block
 

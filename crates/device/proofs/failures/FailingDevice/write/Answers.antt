@@ -4,9 +4,8 @@ use Rattle.device.proofs.Disk.{writes, writes_outside, writes_offline}
 use Rattle.device.proofs.FailingDisk.{online_failing, blocks_failing, failing_done, failing_lost}
 use Rattle.device.proofs.failures.FailingDevice.write.Goals as goal
 
-pub returns-then-block-count : goal.returns-then-block-count
-returns-then-block-count c =
-    record { writes = writes_outside (omega arith); event = λ h o. absurd (omega arith); good = refl; told = (refl, refl) }
+pub returns-then-block-count-clause-writes : goal.returns-then-block-count-clause-writes
+returns-then-block-count-clause-writes c = writes_outside (omega arith)
 
 pub returns-then-not-self : goal.returns-then-not-self
 returns-then-not-self c =
