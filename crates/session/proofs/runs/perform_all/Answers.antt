@@ -1,10 +1,11 @@
+use Rattle.session.specs.Calls.{kind_of}
 use Rattle.session.specs.Runs.{KindLaws}
 use Rattle.session.proofs.Running.{ran_more, ran_all}
 use Rattle.session.proofs.Walks.{walked_none}
 use Rattle.session.proofs.runs.perform_all.Given as given
 use Rattle.session.proofs.runs.perform_all.Goals as goal
 
-laws : (g : given.Over) → KindLaws (record { code = g.K.Kind.code; form = g.K.Kind.form; reading = g.K.Kind.reading })
+laws : (g : given.Over) → KindLaws (kind_of g.K.Kind)
 laws g = let met = g.met.K.Kind in record { known = met.known; sized = met.sized; bounded = met.bounded; round = met.round; exact = met.exact }
 
 pub loop-i-init : goal.loop-i-init

@@ -1,7 +1,7 @@
 use Rattle.std.proofs.Common.{◌≡◌, map}
 use Rattle.pairing.specs.Reservoir.{Reservoir}
 use Rattle.session.specs.Asked.{asked}
-use Rattle.session.specs.Calls.{Kind}
+use Rattle.session.specs.Calls.{kind_of}
 use Rattle.session.specs.Runs.{Keeps}
 use Rattle.session.proofs.Walks.{Walked}
 use Rattle.session.proofs.runs.perform_all.Given as goal
@@ -9,8 +9,8 @@ use Rattle.session.proofs.runs.perform_all.Given as goal
 -- the calls before were made, and their answers are in their places
 abbrev pub invariant-loop-i : goal.invariant-loop-i
 invariant-loop-i g l =
-    let own : Kind g.row.K.Denot = record { code = g.K.Kind.code; form = g.K.Kind.form; reading = g.K.Kind.reading } in
-    let other : Kind g.row.J.Denot = record { code = g.J.Kind.code; form = g.J.Kind.form; reading = g.J.Kind.reading } in
+    let own = kind_of g.K.Kind in
+    let other = kind_of g.J.Kind in
     let d = g.D.Device.meaning l.initial.device in
     (own.code ≡ other.code → ⊥) → (r : Reservoir g.row.K.Denot) → Keeps own d r →
     Walked own other d l.initial.page r (map (asked g.S.Source.words) l.calls) l.initial.replies l.i (g.D.Device.meaning l.device) l.page

@@ -1,10 +1,11 @@
 use Rattle.journal.proofs.Writes.{exit_is}
+use Rattle.session.specs.Calls.{kind_of}
 use Rattle.session.specs.Runs.{KindLaws}
 use Rattle.session.proofs.Running.{resume_short, resume_unopened, resume_resumed}
 use Rattle.session.proofs.runs.resume.Given as given
 use Rattle.session.proofs.runs.resume.Goals as goal
 
-laws : (g : given.Over) → KindLaws (record { code = g.K.Kind.code; form = g.K.Kind.form; reading = g.K.Kind.reading })
+laws : (g : given.Over) → KindLaws (kind_of g.K.Kind)
 laws g = let met = g.met.K.Kind in record { known = met.known; sized = met.sized; bounded = met.bounded; round = met.round; exact = met.exact }
 
 pub returns-in_err-check_places : goal.returns-in_err-check_places

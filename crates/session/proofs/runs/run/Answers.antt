@@ -1,11 +1,12 @@
 use Rattle.journal.proofs.Writes.{exit_is}
+use Rattle.session.specs.Calls.{kind_of}
 use Rattle.session.specs.Runs.{KindLaws}
 use Rattle.session.proofs.FairSessions.{fairness_holds}
 use Rattle.session.proofs.Running.{run_short, run_unmade, run_ran}
 use Rattle.session.proofs.runs.run.Given as given
 use Rattle.session.proofs.runs.run.Goals as goal
 
-laws : (g : given.Over) → KindLaws (record { code = g.K.Kind.code; form = g.K.Kind.form; reading = g.K.Kind.reading })
+laws : (g : given.Over) → KindLaws (kind_of g.K.Kind)
 laws g = let met = g.met.K.Kind in record { known = met.known; sized = met.sized; bounded = met.bounded; round = met.round; exact = met.exact }
 
 pub returns-in_err-check_places : goal.returns-in_err-check_places
