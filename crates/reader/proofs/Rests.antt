@@ -1,8 +1,8 @@
 -- Lemmas on faults: what an answer tells of them, and the first of many.
-use Rattle.std.proofs.Common.{◌≡◌, ℕ, suc, ◌+◌, ◌-◌, ◌<◌, IsErrAnd, Some, None, Ok, Err, Option, Result, sym, refl, ap, ◌∙◌, arith}
-use Rattle.std.proofs.lemmas.Result.{err_from_is_err_and}
+use Rattle.std.proofs.Common.{◌≡◌, ℕ, suc, ◌+◌, ◌-◌, ◌<◌, Some, None, Ok, Err, Option, Result, sym, refl, ap, ◌∙◌, arith}
 use Rattle.fault.specs.declared.Fault.{Fault}
 use Rattle.std.specs.Option.{option_or}
+pub use Rattle.device.proofs.Disk.{exit_is}
 use Rattle.layout.specs.Reading.{unless_fault, first_of}
 
 -- ---- faults
@@ -27,9 +27,6 @@ pub err_not_ok : {x : Fault} → ◌≡◌ {A = Result (Unit {0}) Fault} (Err x)
 err_not_ok h = let z : ◌≡◌ {A = ℕ} 0 1 = cc in omega arith
 
 -- the exit of a `?`
-pub exit_is : {T : Type 0} {r : Result T Fault} {x : Fault} → IsErrAnd r (λ y. y ≡ x) → r ≡ Err x
-exit_is {T} {r} {x} h = let p = err_from_is_err_and r h in p.1 ∙ ap Err p.2
-
 -- ---- the first fault of n parts from `start` on
 
 -- when the first i have none, it is the first of the rest
