@@ -11,7 +11,7 @@ use items::ItemKind;
 use octets::{all_zero, put, u16_at, u64_at};
 use pairing::{Counters, Counts, CountsError};
 
-// The bytes of a head, for a kind's code. Here as below that is a byte, since each has an answer: an `ItemKind` would ask more of callers.
+// The bytes of a head, for a kind's code. Here as below that is a byte: every byte has an answer, and an `ItemKind` would ask more of callers.
 pub fn head_bytes(code: u8, counters: Counters) -> [u8; 512]
     ensures { result ≡ head_of code counters.counts }
 {
