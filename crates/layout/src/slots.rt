@@ -28,7 +28,7 @@ pub fn slot_in(block: &[u8; 512], slot: u16) -> [u8; 64]
     slots[usize::from(slot % 8)]
 }
 
-// Puts the bytes of a slot into the block that has it.
+// Puts the bytes of a slot into the block that has it; by offset, as `put_block` of the stock does.
 pub fn put_slot(block: &mut [u8; 512], slot: u16, bytes: &[u8; 64])
     ensures { block.new ≡ with_slot block.old slot bytes.now }
 {

@@ -6,6 +6,7 @@ ghost use Rattle.journal.specs.Header.{out_of_range, reserved_zero, marked, fiel
 use super::{Pending, PendingCall};
 use octets::{all_zero, put, u16_at, u32_at, u64_at};
 
+// As in `Pending`, but with the call as its bytes have it; one generic struct would name neither.
 #[derive(Clone, Copy)]
 pub(crate) struct Fields {
     pub(crate) call: CallFields,
