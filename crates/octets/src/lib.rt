@@ -16,7 +16,7 @@ pub fn all_zero(bytes: &[u8]) -> bool
     bytes.iter().all(|byte| *byte == 0)
 }
 
-// Whether both are the same: `==`, under the name that contracts above cite.
+// Whether both are the same.
 pub fn same(left: &[u8], right: &[u8]) -> bool
     ensures { result ≡ bytes_eq left.now right.now }
 {
