@@ -54,7 +54,7 @@ impl Field<'_> {
         self.state = State::Empty;
     }
 
-    // Adds a byte behind the n that the field shows; what is too long shows no more.
+    // Adds a byte behind the n that the field shows. Where no byte fits any more, the line is overlong.
     fn add(&mut self, n: usize, byte: u8)
         ensures same { self.new.bytes.ghost_name ≡ self.old.bytes.ghost_name }
         ensures state { self.new.state ≡ (if nat_lt n 100 then Filling (n + 1) else Overlong) }

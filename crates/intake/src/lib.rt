@@ -52,7 +52,7 @@ fn fill(input: &[u8], field: &mut Field, table: &mut [Entry]) -> usize
     ensures count { result ≡ length (entries input.now) }
     ensures entries { table.new ≡ entries input.now ++ drop (length (entries input.now)) table.old }
 {
-    // a cursor into the table: no chain proof goes through a closure that scans into the field, so no `zip`
+    // by index: once the borrow of an `iter_mut` in a `zip` is over, a proof knows how many entries there are and not which
     let mut count = 0;
     for byte in input {
         if let Some(entry) = field.scan(*byte) {

@@ -189,7 +189,7 @@ fn present(field: &[u8]) -> &[u8]
     }
 }
 
-// What a line says whose text behind `S ` this is.
+// What the line `S TEXT` says, or why it is no transaction; takes the text.
 fn store(text: &[u8]) -> Result<Transaction, Fault>
     ensures { result ≡ stored text.now }
 {
@@ -202,7 +202,7 @@ fn store(text: &[u8]) -> Result<Transaction, Fault>
     Ok(Transaction::Store { number, label })
 }
 
-// What a line says whose text behind `T ` this is.
+// What the line `T TEXT` says, or why it is no transaction; takes the text.
 fn take(text: &[u8]) -> Result<Transaction, Fault>
     ensures { result ≡ taken text.now }
 {
