@@ -88,8 +88,6 @@ pub fn intake(input: &[u8], buffer: &mut [u8], table: &mut [Entry]) -> Result<us
     ensures wiped { buffer.new ≡ wiped buffer.old }
     ensures cancelled { (other : List ℕ) → struck other ≡ struck input.now → entries other ≡ entries input.now }
 {
-    let Some(bytes) = buffer.first_chunk_mut::<FIELD>() else {
-        return Err(Fault::TOO_SHORT);
-    };
+    let bytes = buffer.first_chunk_mut::<FIELD>().ok_or(Fault::TOO_SHORT)?;
     scan_over(input, bytes, table)
 }
