@@ -13,6 +13,7 @@ pub mod Texts
 pub mod LabelFormLaws
 pub mod FormLaws
 pub mod Parts
+pub mod PaddedLaws
 pub mod Same
 pub mod LabelsLemmas
 pub mod FormBytes

@@ -31,6 +31,7 @@ impl Kind for Label {
         ItemKind::Label
     }
 
+    #[tactic(auto, using(std::proofs::Common::append_assoc), unfolding(crate::specs::Forms::label_form))]
     fn to_form(&self) -> [u8; 60] {
         let mut form = Form::new();
         form.put_section(self.code());

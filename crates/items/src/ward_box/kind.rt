@@ -1,5 +1,4 @@
-ghost use Rattle.std.specs.Prelude.{◌≡◌, ◌+◌, ◌≤◌, length};
-ghost use Rattle.std.proofs.Math.Seq.{paste};
+ghost use Rattle.std.specs.Prelude.{◌≡◌, ◌+◌, ◌≤◌, ◌++◌, length};
 ghost use Rattle.items.specs.BoxForms.{box_form, box_reading, difference_form, ended, with_difference, after_ward};
 ghost use Rattle.items.specs.BoxFormLaws.{box_sized, box_round, box_exact};
 ghost use Rattle.items.specs.FormBytes.{box_bounded};
@@ -33,6 +32,7 @@ impl Kind for WardBox {
         ItemKind::WardBox
     }
 
+    #[tactic(auto, unfolding(crate::specs::BoxForms::box_form))]
     fn to_form(&self) -> [u8; 60] {
         let mut form = Form::new();
         form.put_section(self.ward());
@@ -51,9 +51,8 @@ impl Kind for WardBox {
 
 // Writes the weight difference after the count of numbers.
 fn put_difference(form: &mut Form, difference: Option<i16>)
-    requires { form.old.at + 3 ≤ 60 }
-    ensures next { form.new.at ≡ form.old.at + length (difference_form difference) }
-    ensures after { form.new.bytes ≡ paste form.old.bytes form.old.at (difference_form difference) (length (difference_form difference)) }
+    requires { length form.old + 3 ≤ 60 }
+    ensures { form.new ≡ form.old ++ difference_form difference }
 {
     match difference {
         None => form.put(&[0]),
