@@ -20,6 +20,7 @@ pub type Entry = Result<Transaction, Fault>;
 pub fn count_lines(input: &[u8]) -> usize
     ensures { result ≡ length (confirmed input.now) }
 {
+    // a flag and a counter: the proof of `array_windows`, `filter` and `count` did not close
     let mut lines = 0;
     let mut filling = false;
     for byte in input {
