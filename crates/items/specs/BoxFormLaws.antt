@@ -19,12 +19,6 @@ use Rattle.items.specs.Texts.{chars, padded}
 use Rattle.items.specs.declared.ward_box.WardBox.{WardBox}
 use Rattle.items.specs.BoxesLemmas.{box_chars, box_sections, Sections}
 use Rattle.items.specs.FormLaws.{front_counted, behind_counted, length_padded, section_split, some_ok}
-use Rattle.items.specs.Parts.{Written}
-use Rattle.items.specs.Same.{copy_all}
-
-pub form_written : (x : WardBox) {f : List ℕ} {at : ℕ} → Written (zeros 60) f (counted (chars x.ward) ++ difference_form x.difference) at → f ≡ box_form x
-unfolding box_form
-form_written x w = w.bytes ∙ copy_all 60 (counted (chars x.ward) ++ difference_form x.difference) _ refl
 
 pub reading_none : (s : List ℕ) → (length s ≢ 60) → None ≡ box_reading s
 unfolding box_reading

@@ -11,8 +11,6 @@ use Rattle.items.specs.Labels.{label, code_fits, batch_fits, expiry_fits}
 use Rattle.items.specs.Texts.{chars, padded}
 use Rattle.items.specs.declared.label.Label.{Label}
 use Rattle.items.specs.FormLaws.{front_counted, behind_counted, length_padded, section_split, length_split, some_ok}
-use Rattle.items.specs.Parts.{Written}
-use Rattle.items.specs.Same.{copy_all}
 use Rattle.items.specs.LabelsLemmas.{label_chars, label_sections}
 
 -- the three sections, and then the rest
@@ -132,11 +130,3 @@ reading_none s h = sym (cond-false _ _ _ h)
 pub reading_some : (s : List ℕ) → length s ≡ 60 → every blank (behind (behind (behind s))) ≡ true → label_reading s ≡ result_ok (label (front s) (front (behind s)) (front (behind (behind s))))
 unfolding label_reading
 reading_some s h k = cond-true _ _ _ (and_from _ _ (eq-eqb _ 60 h) k)
-
--- the form of a label whose sections were written one after the other
-pub form_written : (l : Label) {f : List ℕ} {at : ℕ} → Written (zeros 60) f ((counted (chars l.code) ++ counted (chars l.batch)) ++ counted (chars l.expiry)) at → f ≡ label_form l
-unfolding label_form
-form_written l w =
-    w.bytes
-    ∙ copy_all 60 ((counted (chars l.code) ++ counted (chars l.batch)) ++ counted (chars l.expiry)) _ refl
-    ∙ ap (padded 60) (append_assoc (counted (chars l.code)) (counted (chars l.batch)) (counted (chars l.expiry)))

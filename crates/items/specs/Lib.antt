@@ -12,7 +12,6 @@ pub mod Padded
 pub mod Texts
 pub mod LabelFormLaws
 pub mod FormLaws
-pub mod Parts
 pub mod PaddedLaws
 pub mod Same
 pub mod LabelsLemmas

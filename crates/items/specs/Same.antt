@@ -1,12 +1,11 @@
 -- Texts with the same characters are the same text.
 -- Assumes nothing.
-use Rattle.std.specs.Prelude.{◌≡◌, ℕ, zero, suc, ◌-◌, ◌<◌, ◌≤◌, List, [], ◌∷◌, ◌++◌, length, take, drop, slice_index, refl}
-use Rattle.std.proofs.Common.{sym, ap, ◌∙◌, zero-add, arith, take-append-drop, length-take-le}
+use Rattle.std.specs.Prelude.{◌≡◌, ℕ, zero, suc, ◌-◌, ◌<◌, ◌≤◌, List, [], ◌∷◌, ◌++◌, length, take, slice_index, refl}
+use Rattle.std.proofs.Common.{sym, ap, ◌∙◌, arith, take-append-drop, length-take-le}
 use mathlib.Core.HLevel.{is_prop→PathP}
-use Rattle.std.proofs.Math.Seq.{take-append_seam, paste}
+use Rattle.std.proofs.Math.Seq.{take-append_seam}
 use denote.Struct.Props.{props}
-use Rattle.std.proofs.lemmas.List.Edits.{paste_all}
-use Rattle.std.proofs.lemmas.List.{drop-replicate, ext_get_or}
+use Rattle.std.proofs.lemmas.List.{ext_get_or}
 use Rattle.octets.specs.Zeros.{zeros}
 use Rattle.octets.proofs.Zeros.{zero_at}
 use Rattle.items.specs.Padded.{Padded}
@@ -20,11 +19,6 @@ pub bytes_are : {n : ℕ} (t : Text n) → t.bytes ≡ padded n (chars t)
 bytes_are {n} t =
     sym (take-append-drop t.len t.bytes)
     ∙ ap (λ z. chars t ++ z) (t.padded.2 ∙ ap (λ k. zeros (n - k)) (sym (chars_length t)))
-
-pub copy_all : (n : ℕ) (cs : List ℕ) (i : ℕ) → i ≡ length cs → paste (zeros n) 0 cs i ≡ padded n cs
-copy_all n cs i e =
-    paste_all (zeros n) 0 cs i e
-    ∙ ap (λ z. cs ++ z) (ap (λ k. drop k (zeros n)) (zero-add i ∙ e) ∙ drop-replicate (length cs) n 0)
 
 padded_prop : (n len : ℕ) (bytes : List ℕ) → IsProp (Padded n len bytes)
 padded_prop n len bytes = hlevel props
