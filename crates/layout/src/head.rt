@@ -40,9 +40,7 @@ pub fn read_head(code: u8, bytes: &[u8; 512]) -> Result<Counters, Fault>
     if !is_kind(kind) {
         return Err(Fault::not_register(0, Damage::Range));
     }
-    let Some(counts) = counts_in(bytes) else {
-        return Err(Fault::not_register(0, Damage::Range));
-    };
+    let counts = counts_in(bytes).ok_or(Fault::not_register(0, Damage::Range))?;
     let counters = counters_of(counts)?;
     if kind != code {
         return Err(Fault::not_register(0, Damage::OtherKind));
@@ -73,9 +71,7 @@ fn is_kind(code: u8) -> bool
 fn counts_in(bytes: &[u8; 512]) -> Option<Counts>
     ensures { SomeIff result ((counts_in bytes.now).calls < 2 ^ 32) (counts_in bytes.now) }
 {
-    let Ok(calls) = u32::try_from(u64_at(bytes, 24)) else {
-        return None;
-    };
+    let calls = u32::try_from(u64_at(bytes, 24)).ok()?;
     Some(Counts {
         capacity: u16_at(bytes, 8),
         size: u16_at(bytes, 12),
