@@ -1,10 +1,12 @@
 -- A take that can be made: its answer and its commit are those of the plan.
 -- Assumes nothing.
-use Rattle.std.proofs.Common.{◌≡◌, ℕ, ◌+◌, ◌-◌, ◌/◌, ◌<◌, Bool, not, ◌&&◌, eqb, List, [], ◌∷◌, map, length, get_or, take, is_some, Some, None, Ok, Option, Result, sym, refl, ap, ◌∙◌, subst, position}
+use Rattle.std.proofs.Common.{◌≡◌, ℕ, ◌+◌, ◌-◌, ◌/◌, ◌<◌, Bool, not, ◌&&◌, eqb, List, [], ◌∷◌, map, length, get_or, take, is_some, Some, None, SomeIff, Ok, Option, Result, sym, refl, ap, ◌∙◌, subst, position}
+use Rattle.std.specs.Option.{option_map}
 use Rattle.fault.specs.declared.Fault.{Fault}
 use Rattle.pairing.specs.Reservoir.{Reservoir, taken, slot_of, without}
 use Rattle.pairing.specs.Rules.{CanTake, after_take}
 use Rattle.pairing.specs.Steps.{counts_of}
+use Rattle.pairing.specs.declared.counters.Counters.{Counters}
 use Rattle.pairing.specs.declared.counts.Counts.{Counts}
 use Rattle.pairing.proofs.Following.{follow}
 use Rattle.pairing.proofs.Lawfulness.{possible}
@@ -22,6 +24,14 @@ use Rattle.reader.specs.declared.Found.{Found}
 use Rattle.register.specs.Takes.{slot_targets, Allowed}
 use Rattle.register.proofs.Places.{position_is}
 use Rattle.register.proofs.TakeContents.{content_head, content_without}
+
+-- the counters after a call: that there are some, and that there are none
+pub some_after :
+    (o : Option Counters) (P : Type 0) (n : Counts) (x : Counters) → SomeIff (option_map (λ c. c.counts) o) P n → o ≡ Some x → x.counts ≡ n
+some_after o P n x told is = (subst (λ o. SomeIff (option_map (λ c. c.counts) o) P n) is told).1
+
+pub none_after : (o : Option Counters) (P : Type 0) (n : Counts) → SomeIff (option_map (λ c. c.counts) o) P n → o ≡ None → P → ⊥
+none_after o P n told is = subst (λ o. SomeIff (option_map (λ c. c.counts) o) P n) is told
 
 -- where an array of two has none
 abbrev no_write : Write

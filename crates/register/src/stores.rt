@@ -60,13 +60,11 @@ impl Step {
     fn next<S: Source>(before: Counters, source: &S) -> Result<Step, Fault>
         ensures { MatchResult result (λ s. Stepped (S.Source.words source.now) before.counts s.before.counts s.after.counts s.width.value s.drawn) (λ f. (CanCall before.counts → width_at before.counts ≤ 32768 → draw_at (S.Source.words source.now) before.counts ≡ Err f)) }
     {
-        let Some(width) = before.width() else {
-            return Err(Fault::NO_DRAW); // not reached: a number is left for the pack
-        };
+        // not reached: a number is left for the pack
+        let width = before.width().ok_or(Fault::NO_DRAW)?;
         let drawn = draw(source, width, before.get().words)?;
-        let Some(after) = before.after_store(drawn) else {
-            return Err(Fault::NO_DRAW); // not reached: the draw is below the width
-        };
+        // not reached: the draw is below the width
+        let after = before.after_store(drawn).ok_or(Fault::NO_DRAW)?;
         Ok(Step {
             before,
             width,

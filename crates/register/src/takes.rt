@@ -118,9 +118,8 @@ impl<K: Kind, D: Device> Resting<'_, K, D> {
         let Some(slot) = slot else {
             return self.kept_changes();
         };
-        let Some(last) = self.found.counters.last() else {
-            return Err(Fault::NOT_IN_STOCK); // not reached: an empty sample has no slot
-        };
+        // not reached: an empty sample has no slot
+        let last = self.found.counters.last().ok_or(Fault::NOT_IN_STOCK)?;
         self.freed_changes(slot, last)
     }
 
@@ -130,9 +129,8 @@ impl<K: Kind, D: Device> Resting<'_, K, D> {
     {
         let counters = self.found.counters;
         let slot = self.slot(number);
-        let Some(after) = counters.after_take(slot.is_some()) else {
-            return Err(Fault::LAST_CALL); // not reached: the take can be made
-        };
+        // not reached: the take can be made
+        let after = counters.after_take(slot.is_some()).ok_or(Fault::LAST_CALL)?;
         let [first, second] = self.slot_changes(slot)?;
         let mut stock = self.found.stock;
         stock.remove(number);
