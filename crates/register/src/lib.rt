@@ -10,5 +10,5 @@ mod takes;
 
 pub use comparing::{SideFault, same};
 pub use reporting::report;
-pub use stores::store;
+pub use stores::{Stored, store};
 pub use takes::take;

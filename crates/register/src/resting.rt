@@ -1,8 +1,9 @@
 // A register at rest, as a call finds it.
-ghost use Rattle.std.specs.Prelude.{◌≡◌, true, Ok, Err, MatchResult, is_ok};
+ghost use Rattle.std.specs.Prelude.{◌≡◌, ◌==◌, true, Ok, Err, MatchResult, is_ok};
+ghost use Rattle.fault.specs.Refusals.{last_call};
 ghost use Rattle.layout.specs.Laws.{Storable};
 ghost use Rattle.layout.specs.Layout.{Laid, content};
-ghost use Rattle.plans.specs.Plans.{at_rest};
+ghost use Rattle.plans.specs.Plans.{at_rest, refused_if};
 ghost use Rattle.reader.specs.Reads.{Finds};
 ghost use Rattle.register.specs.Rested.{kept_on};
 
@@ -34,6 +35,16 @@ impl<'a, K: Kind, D: Device> Resting<'a, K, D> {
             found,
             kind: PhantomData,
         })
+    }
+
+    // Refuses a call after the last.
+    pub(crate) fn require_next(&self) -> Result<(), Fault>
+        ensures { result ≡ refused_if (self.now.found.counters.counts.calls == 4294967295) last_call (Ok tt) }
+    {
+        if self.found.counters.get().calls == u32::MAX {
+            return Err(Fault::LAST_CALL);
+        }
+        Ok(())
     }
 
     // The bytes of a block.

@@ -43,8 +43,9 @@ fn with_slot(block: [u8; 512], slot: Option<u16>, new: &[u8; 64]) -> [u8; 512]
     changed
 }
 
-// The count of calls after a store, the width, the draw, and the slot that it filled.
-type Answer = (u32, u16, u16, Option<u16>);
+// The count of calls after a store, the width, the draw, and the slot that it filled. Store answers a tuple, as the
+// rules of the call say.
+pub type Stored = (u32, u16, u16, Option<u16>);
 
 // A store's step: its draw, and the counters before and after it.
 #[derive(Clone, Copy)]
@@ -81,7 +82,7 @@ impl Step {
     }
 
     // What the store answers.
-    fn answer(&self) -> Answer
+    fn answer(&self) -> Stored
         ensures { result ≡ (self.now.after.counts.calls, self.now.width.value, self.now.drawn.value, filled_at self.now.before.counts self.now.drawn.value) }
     {
         (
@@ -140,7 +141,7 @@ impl<K: Kind, D: Device> Resting<'_, K, D> {
         number: u16,
         item: &K,
         source: &S,
-    ) -> Result<(Answer, Commit), Fault>
+    ) -> Result<(Stored, Commit), Fault>
         ensures { Accepts (kept_on K.Kind (D.Device.meaning self.now.device.now)) number → PlannedAs (drawn_plan K.Kind.code K.Kind.form (kept_on K.Kind (D.Device.meaning self.now.device.now)) number item.now (S.Source.words source.now)) result }
     {
         let step = Step::next(self.found.counters, source)?;
@@ -156,9 +157,7 @@ impl<K: Kind, D: Device> Resting<'_, K, D> {
     fn check_store(&self, number: u16) -> Result<(), Fault>
         ensures { result ≡ refused_if (self.now.found.counters.counts.calls == 4294967295) last_call (refused_if (in_set self.now.found.stock.bytes number) in_stock (Ok tt)) }
     {
-        if self.found.counters.get().calls == u32::MAX {
-            return Err(Fault::LAST_CALL);
-        }
+        self.require_next()?;
         if self.found.stock.has(number) {
             return Err(Fault::IN_STOCK);
         }
@@ -172,7 +171,7 @@ fn prepare_store<K: Kind, S: Source, D: Device>(
     number: u16,
     item: &K,
     source: &S,
-) -> Result<(Answer, Commit), Fault>
+) -> Result<(Stored, Commit), Fault>
     ensures { PlannedAs (store_plan K.Kind.code K.Kind.form K.Kind.reading (D.Device.meaning device.now) number item.now (S.Source.words source.now)) result }
 {
     check_number(number)?;
@@ -188,7 +187,7 @@ pub fn store<K: Kind, S: Source, D: Device>(
     number: u16,
     item: &K,
     source: &S,
-) -> Result<(u32, u16, u16, Option<u16>), Fault>
+) -> Result<Stored, Fault>
     ensures { Performs (store_plan K.Kind.code K.Kind.form K.Kind.reading (D.Device.meaning device.old) number item.now (S.Source.words source.now)) (D.Device.meaning device.old) result (D.Device.meaning device.new) }
 {
     let (answer, commit) = prepare_store(device, number, item, source)?;

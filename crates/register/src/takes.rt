@@ -148,9 +148,7 @@ impl<K: Kind, D: Device> Resting<'_, K, D> {
     fn check_take(&self, number: u16) -> Result<(), Fault>
         ensures { result ≡ take_checks self.now.found number }
     {
-        if self.found.counters.get().calls == u32::MAX {
-            return Err(Fault::LAST_CALL);
-        }
+        self.require_next()?;
         if !self.found.stock.has(number) {
             return Err(Fault::NOT_IN_STOCK);
         }
