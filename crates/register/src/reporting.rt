@@ -3,7 +3,7 @@ ghost use Rattle.std.specs.Prelude.{◌≡◌, ◌≤◌, length, Ok, nat_lt};
 ghost use Rattle.fault.specs.Refusals.{too_short};
 ghost use Rattle.plans.specs.Plans.{refused_if, reported};
 ghost use Rattle.register.specs.Reports.{Shown};
-ghost use Rattle.register.specs.Rested.{kept_on};
+ghost use Rattle.register.specs.Kept.{kept_by};
 
 use crate::commits::SLOTS;
 use crate::resting::Resting;
@@ -30,7 +30,7 @@ impl<K: Kind, D: Device> Resting<'_, K, D> {
     // Fills the page with the blocks of the slots, one behind the other.
     fn fill(&self, page: &mut [u8]) -> Result<(), Fault>
         requires { 32768 ≤ length page.old }
-        ensures { (result ≡ Ok tt) × (page.new ≡ reported K.Kind.code K.Kind.form (kept_on K.Kind (D.Device.meaning self.now.device.now)) page.old) }
+        ensures { (result ≡ Ok tt) × (page.new ≡ reported K.Kind.code K.Kind.form (kept_by K.Kind D.Device self.now) page.old) }
     {
         for j in 0..64 {
             let block = self.block(SLOTS + j)?;

@@ -10,7 +10,7 @@ ghost use Rattle.pairing.specs.Steps.{width_at, filled_at, CanCall};
 ghost use Rattle.plans.specs.Calls.{Performs};
 ghost use Rattle.plans.specs.Plans.{store_plan, store_block, stock_block_of, refused_if};
 ghost use Rattle.register.specs.Planned.{PlannedAs};
-ghost use Rattle.register.specs.Rested.{kept_on};
+ghost use Rattle.register.specs.Kept.{kept_by};
 ghost use Rattle.register.specs.Stores.{slotted, draw_at, Stepped, Accepts, drawn_plan};
 
 use crate::commits::{
@@ -128,7 +128,7 @@ impl Step {
 impl<K: Kind, D: Device> Resting<'_, K, D> {
     // The slot's block, with new bytes in the slot.
     fn slot_change(&self, slot: Option<u16>, new: &[u8; 64]) -> Result<Write, Fault>
-        ensures { Laid (store_block slot) → result ≡ Ok (write_at (store_block slot) (slotted (content K.Kind.code K.Kind.form (kept_on K.Kind (D.Device.meaning self.now.device.now)) (store_block slot)) slot new.now)) }
+        ensures { Laid (store_block slot) → result ≡ Ok (write_at (store_block slot) (slotted (content K.Kind.code K.Kind.form (kept_by K.Kind D.Device self.now) (store_block slot)) slot new.now)) }
     {
         let block = store_block(slot);
         let bytes = with_slot(self.block(block)?, slot, new);
@@ -142,7 +142,7 @@ impl<K: Kind, D: Device> Resting<'_, K, D> {
         item: &K,
         source: &S,
     ) -> Result<(Stored, Commit), Fault>
-        ensures { Accepts (kept_on K.Kind (D.Device.meaning self.now.device.now)) number → PlannedAs (drawn_plan K.Kind.code K.Kind.form (kept_on K.Kind (D.Device.meaning self.now.device.now)) number item.now (S.Source.words source.now)) result }
+        ensures { Accepts (kept_by K.Kind D.Device self.now) number → PlannedAs (drawn_plan K.Kind.code K.Kind.form (kept_by K.Kind D.Device self.now) number item.now (S.Source.words source.now)) result }
     {
         let step = Step::next(self.found.counters, source)?;
         let slots = self.slot_change(step.slot(), &slot_bytes(number, item))?;

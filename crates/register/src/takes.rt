@@ -8,7 +8,7 @@ ghost use Rattle.layout.specs.Layout.{content};
 ghost use Rattle.plans.specs.Calls.{Performs};
 ghost use Rattle.plans.specs.Plans.{slot_block_of, changes_to, taking, take_plan};
 ghost use Rattle.register.specs.Planned.{PlannedAs};
-ghost use Rattle.register.specs.Rested.{kept_on};
+ghost use Rattle.register.specs.Kept.{kept_by};
 ghost use Rattle.register.specs.Takes.{changed_in, slot_targets, take_checks, Frees, Allowed};
 
 use crate::commits::{Commit, SLOTS, check_number, head_change, slot_block, stock_change};
@@ -59,7 +59,7 @@ impl Freed {
 
     // The change of the block that has the slot `at`.
     fn change<K: Kind, D: Device>(&self, register: &Resting<K, D>, at: u16) -> Result<Write, Fault>
-        ensures { (number : ℕ) → Frees K.Kind.form (kept_on K.Kind (D.Device.meaning register.now.device.now)) number self.now.slot self.now.last self.now.bytes → at < 512 → result ≡ Ok (write_at (slot_block_of at) (content K.Kind.code K.Kind.form (taken (kept_on K.Kind (D.Device.meaning register.now.device.now)) number) (slot_block_of at))) }
+        ensures { (number : ℕ) → Frees K.Kind.form (kept_by K.Kind D.Device register.now) number self.now.slot self.now.last self.now.bytes → at < 512 → result ≡ Ok (write_at (slot_block_of at) (content K.Kind.code K.Kind.form (taken (kept_by K.Kind D.Device register.now) number) (slot_block_of at))) }
     {
         let block = slot_block(at);
         let bytes = self.apply(register.block(block)?, at / 8);
@@ -84,7 +84,7 @@ fn header(counters: Counters, number: u16, blocks: [u16; 4]) -> Pending
 impl<K: Kind, D: Device> Resting<'_, K, D> {
     // The slot that the pack with this number has.
     fn slot(&self, number: u16) -> Option<u16>
-        ensures { result ≡ slot_of (kept_on K.Kind (D.Device.meaning self.now.device.now)).slots number }
+        ensures { result ≡ slot_of (kept_by K.Kind D.Device self.now).slots number }
     {
         let sampled = usize::from(self.found.counters.get().sampled);
         let slot = place_of(&self.found.sampled.numbers[..sampled], number)?;
@@ -93,7 +93,7 @@ impl<K: Kind, D: Device> Resting<'_, K, D> {
 
     // The changes of the slots where a slot is freed: of its block, and of the last slot's.
     fn freed_changes(&self, slot: u16, last: u16) -> Result<[Write; 2], Fault>
-        ensures { (number : ℕ) → slot_of (kept_on K.Kind (D.Device.meaning self.now.device.now)).slots number ≡ Some slot → length (kept_on K.Kind (D.Device.meaning self.now.device.now)).slots ≡ last + 1 → result ≡ Ok (changes_to K.Kind.code K.Kind.form (taken (kept_on K.Kind (D.Device.meaning self.now.device.now)) number) (slot_targets (Some slot) last)) }
+        ensures { (number : ℕ) → slot_of (kept_by K.Kind D.Device self.now).slots number ≡ Some slot → length (kept_by K.Kind D.Device self.now).slots ≡ last + 1 → result ≡ Ok (changes_to K.Kind.code K.Kind.form (taken (kept_by K.Kind D.Device self.now) number) (slot_targets (Some slot) last)) }
     {
         let bytes = slot_in(&self.block(slot_block(last))?, last);
         let freed = Freed { slot, last, bytes };
@@ -102,7 +102,7 @@ impl<K: Kind, D: Device> Resting<'_, K, D> {
 
     // The changes where no slot is freed: the first block of slots, twice, as it is.
     fn kept_changes(&self) -> Result<[Write; 2], Fault>
-        ensures { (number last : ℕ) → slot_of (kept_on K.Kind (D.Device.meaning self.now.device.now)).slots number ≡ None → result ≡ Ok (changes_to K.Kind.code K.Kind.form (taken (kept_on K.Kind (D.Device.meaning self.now.device.now)) number) (slot_targets None last)) }
+        ensures { (number last : ℕ) → slot_of (kept_by K.Kind D.Device self.now).slots number ≡ None → result ≡ Ok (changes_to K.Kind.code K.Kind.form (taken (kept_by K.Kind D.Device self.now) number) (slot_targets None last)) }
     {
         let kept = Write {
             block: SLOTS,
@@ -113,7 +113,7 @@ impl<K: Kind, D: Device> Resting<'_, K, D> {
 
     // The changes of the slots, by the slot that is freed.
     fn slot_changes(&self, slot: Option<u16>) -> Result<[Write; 2], Fault>
-        ensures { (number : ℕ) → slot ≡ slot_of (kept_on K.Kind (D.Device.meaning self.now.device.now)).slots number → result ≡ Ok (changes_to K.Kind.code K.Kind.form (taken (kept_on K.Kind (D.Device.meaning self.now.device.now)) number) (slot_targets slot (length (kept_on K.Kind (D.Device.meaning self.now.device.now)).slots - 1))) }
+        ensures { (number : ℕ) → slot ≡ slot_of (kept_by K.Kind D.Device self.now).slots number → result ≡ Ok (changes_to K.Kind.code K.Kind.form (taken (kept_by K.Kind D.Device self.now) number) (slot_targets slot (length (kept_by K.Kind D.Device self.now).slots - 1))) }
     {
         let Some(slot) = slot else {
             return self.kept_changes();
@@ -125,7 +125,7 @@ impl<K: Kind, D: Device> Resting<'_, K, D> {
 
     // The answer and the commit of a take that can be made.
     fn plan_take(&self, number: u16) -> Result<((u32, Option<u16>), Commit), Fault>
-        ensures { Allowed (kept_on K.Kind (D.Device.meaning self.now.device.now)) number → PlannedAs (Ok (taking K.Kind.code K.Kind.form (kept_on K.Kind (D.Device.meaning self.now.device.now)) number)) result }
+        ensures { Allowed (kept_by K.Kind D.Device self.now) number → PlannedAs (Ok (taking K.Kind.code K.Kind.form (kept_by K.Kind D.Device self.now) number)) result }
     {
         let counters = self.found.counters;
         let slot = self.slot(number);
