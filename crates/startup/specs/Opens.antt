@@ -2,6 +2,7 @@
 -- Assumes nothing.
 use Rattle.std.specs.Prelude.{◌≡◌, ℕ, ◌+◌, ◌<◌, Bool, ◌&&◌, List, [], ◌∷◌, None, Option, Result, ◌==◌}
 use Rattle.std.specs.Result.{result_map_both}
+use Rattle.items.specs.declared.kind.Kind as trait_of
 use Rattle.fault.specs.declared.Fault.{Fault}
 use Rattle.device.specs.Disk.{Disk, entry_at}
 use Rattle.pairing.specs.Steps.{counts_of}
@@ -20,6 +21,10 @@ use Rattle.startup.specs.Starts.{Ready}
 use Rattle.startup.specs.declared.opening.Finding.{Finding}
 use Rattle.startup.specs.declared.opening.Task.{Task}
 use Rattle.startup.specs.declared.opening.Task.TheVariants as task
+
+-- said of the items of a type, as its trait reads them
+abbrev pub of_kind : {X : Type 0} {A : Type 1} → (ℕ → (List ℕ → Option X) → A) → trait_of.Ghosts X → A
+of_kind f k = f k.code k.reading
 
 -- ---- what is to be done
 

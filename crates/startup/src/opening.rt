@@ -4,7 +4,7 @@ ghost use Rattle.journal.specs.declared.headers.Header.TheVariants as header;
 ghost use Rattle.plans.specs.Calls.{PerformsOnline};
 ghost use Rattle.plans.specs.Plans.{too_small, answering, open_answer, open_plan, used_by};
 ghost use Rattle.reader.specs.Viewed.{of_view};
-ghost use Rattle.startup.specs.Opens.{writes_of, Found, FoundBy, CountsRead, RestRead, ImageRead, ChangesRead, agrees_with};
+ghost use Rattle.startup.specs.Opens.{of_kind, writes_of, Found, FoundBy, CountsRead, RestRead, ImageRead, ChangesRead, agrees_with};
 
 use crate::start::start;
 use device::Device;
@@ -55,7 +55,7 @@ fn perform<D: Device>(device: &mut D, task: &Task) -> Result<(), Fault>
 
 // Reads what there is to open.
 fn find<K: Kind, D: Device>(device: &D) -> Result<Finding, Fault>
-    ensures { Found K.Kind.code K.Kind.reading (D.Device.meaning device.now) result }
+    ensures { of_kind Found K.Kind (D.Device.meaning device.now) result }
 {
     let header = read_header(device)?;
     find_by::<K, D>(device, header)
@@ -63,7 +63,7 @@ fn find<K: Kind, D: Device>(device: &D) -> Result<Finding, Fault>
 
 // Reads what there is to open, by what the header says.
 fn find_by<K: Kind, D: Device>(device: &D, header: Header) -> Result<Finding, Fault>
-    ensures { FoundBy K.Kind.code K.Kind.reading (D.Device.meaning device.now) header result }
+    ensures { of_kind FoundBy K.Kind (D.Device.meaning device.now) header result }
 {
     match header {
         Header::Free => find_resting::<K, D>(device, Task::Nothing),
@@ -76,7 +76,7 @@ fn find_by<K: Kind, D: Device>(device: &D, header: Header) -> Result<Finding, Fa
 
 // Nothing is pending.
 fn find_resting<K: Kind, D: Device>(device: &D, task: Task) -> Result<Finding, Fault>
-    ensures { RestRead K.Kind.code K.Kind.reading (D.Device.meaning device.now) task result }
+    ensures { of_kind RestRead K.Kind (D.Device.meaning device.now) task result }
 {
     let counts = read_counts::<K, D>(&View::plain(device))?;
     Ok(Finding {
@@ -90,7 +90,7 @@ fn find_resting<K: Kind, D: Device>(device: &D, task: Task) -> Result<Finding, F
 
 // A call is pending: the register is read as it will be.
 fn find_pending<K: Kind, D: Device>(device: &D, pending: Pending) -> Result<Finding, Fault>
-    ensures { FoundBy K.Kind.code K.Kind.reading (D.Device.meaning device.now) (header.Pending pending) result }
+    ensures { of_kind FoundBy K.Kind (D.Device.meaning device.now) (header.Pending pending) result }
 {
     let changes = read_changes(device, &pending.blocks)?;
     let counts = counts_after::<K, D>(device, pending)?;
@@ -108,7 +108,7 @@ fn find_pending<K: Kind, D: Device>(device: &D, pending: Pending) -> Result<Find
 
 // The counts of the register once the pending call is finished.
 fn counts_after<K: Kind, D: Device>(device: &D, pending: Pending) -> Result<Counts, Fault>
-    ensures { CountsRead K.Kind.code K.Kind.reading (D.Device.meaning device.now) 2 pending.blocks result }
+    ensures { of_kind CountsRead K.Kind (D.Device.meaning device.now) 2 pending.blocks result }
 {
     read_counts::<K, D>(&View {
         device,
@@ -119,7 +119,7 @@ fn counts_after<K: Kind, D: Device>(device: &D, pending: Pending) -> Result<Coun
 
 // The counts of the register in the view, which is read through.
 fn read_counts<K: Kind, D: Device>(view: &View<D>) -> Result<Counts, Fault>
-    ensures { of_view (CountsRead K.Kind.code K.Kind.reading) D.Device view.now result }
+    ensures { of_view (of_kind CountsRead K.Kind) D.Device view.now result }
 {
     let found = read_through::<K, D>(view)?;
     Ok(found.counters.get())
