@@ -1,6 +1,6 @@
 -- What the code of a request and of a call does, from what it calls.
 -- Assumes nothing.
-use Rattle.std.proofs.Common.{◌≡◌, ℕ, List, [], Option, Result, sym, subst}
+use Rattle.std.proofs.Common.{◌≡◌, ℕ, List, [], Option, Ok, Err, Result, MatchResult, IsOkAnd, sym, ap, subst}
 use Rattle.std.specs.Result.{result_map_both}
 use Rattle.fault.specs.declared.Fault.{Fault}
 use Rattle.device.specs.Disk.{Disk}
@@ -41,6 +41,14 @@ module _ {X : Type 0} (kind : Kind X) {d d' : Disk} where
       PerformsOnline (too_small d) (answering open_answer (open_plan kind.code kind.reading d)) d a d' → (page : List ℕ) →
       Does kind d page Open (result_map_both answer.Opened (λ f. f) a) d' page
   open_does a call page = record { events = call.events; did = open_did call.performed }
+
+-- what a map answers
+pub mapped :
+    {A B : Type 0} (h : A → B) (a : Result A Fault) (r : Result B Fault) →
+    MatchResult a (λ x. IsOkAnd r (λ y. y ≡ h x)) (λ e. r ≡ Err e) → r ≡ result_map_both h (λ f. f) a
+mapped h (Ok x) (Ok y) told = ap Ok told
+mapped h (Ok x) (Err e) told = absurd told
+mapped h (Err e) r told = told
 
 pub report_does :
     {X : Type 0} (kind : Kind X) {d : Disk} {page page' : List ℕ} (a : Result Counts Fault) → Shown kind.code kind.form kind.reading d page a page' →

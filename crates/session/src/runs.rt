@@ -51,16 +51,14 @@ fn perform_take<I: Kind, D: Device>(device: &mut D, number: u16) -> Reply
 fn perform_report<I: Kind, D: Device>(device: &D, page: &mut [u8]) -> Reply
     ensures { Does (kind_of I.Kind) (D.Device.meaning device.now) page.old session.Report result (D.Device.meaning device.now) page.new }
 {
-    let counts = report::<I, D>(device, page)?;
-    Ok(Answer::Reported(counts))
+    report::<I, D>(device, page).map(Answer::Reported)
 }
 
 // Opens the register.
 fn perform_open<I: Kind, D: Device>(device: &mut D) -> Reply
     ensures { (page : List ℕ) → Does (kind_of I.Kind) (D.Device.meaning device.old) page session.Open result (D.Device.meaning device.new) page }
 {
-    let opened = open::<I, D>(device)?;
-    Ok(Answer::Opened(opened))
+    open::<I, D>(device).map(Answer::Opened)
 }
 
 // Does what is asked, for a kind of item.
