@@ -1,5 +1,5 @@
 // A device that fails.
-ghost use Rattle.std.specs.Prelude.{◌≡◌, ◌-◌, is_ok, if◌then◌else◌};
+ghost use Rattle.std.specs.Prelude.{◌≡◌, ◌-◌, true, is_ok, if◌then◌else◌};
 ghost use Rattle.device.specs.Disk.{Writes, Brings, left_by};
 ghost use Rattle.device.specs.FailingDisk.{failing_disk, Tried};
 
@@ -16,6 +16,26 @@ pub struct Failing<'a> {
     pub leaves: Remains,
     // whether it can be brought online
     pub recovers: bool,
+}
+
+impl<'a> Failing<'a> {
+    // An online device in these entries, which can be brought online again.
+    pub fn new(entries: &'a mut [Entry], good: u16, leaves: Remains) -> Failing<'a>
+        ensures entries { result.entries.now ≡ entries.old }
+        ensures lender { result.entries.ghost_name ≡ entries.entry.ghost_name }
+        ensures online { result.online ≡ true }
+        ensures good { result.good ≡ good }
+        ensures leaves { result.leaves ≡ leaves }
+        ensures recovers { result.recovers ≡ true }
+    {
+        Failing {
+            entries,
+            online: true,
+            good,
+            leaves,
+            recovers: true,
+        }
+    }
 }
 
 impl Device for Failing<'_> {

@@ -60,7 +60,7 @@ impl Device for Image<'_> {
     }
 }
 
-// A copy of the block.
+// A copy of the block. By `as_chunks` it is no plainer: the write below keeps these bounds, as a proof does not know what `as_chunks_mut` leaves.
 fn block_in(bytes: &[u8], block: u16) -> [u8; 512]
     requires { 512 * block + 512 ≤ length bytes.now }
     ensures { result ≡ block_in bytes.now block }

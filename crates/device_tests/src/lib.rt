@@ -3,22 +3,11 @@
 
 #[cfg(test)]
 mod tests {
-    use device::{Device, DeviceError, Entry, Failing, Image, Mirror, Remains};
+    use device::{Device, DeviceError, Failing, Image, Mirror, Remains};
     use std::process::Abort;
     use std::test::Fail;
 
     const LEAVES: [Remains; 3] = [Remains::Old, Remains::New, Remains::Unreadable];
-
-    // A device that does so many writes, and then loses each.
-    fn failing(entries: &mut [Entry], good: u16, leaves: Remains) -> Failing<'_> {
-        Failing {
-            entries,
-            online: true,
-            good,
-            leaves,
-            recovers: true,
-        }
-    }
 
     // The byte that block b begins with.
     fn first<D: Device>(device: &D, b: u16) -> Result<u8, Fail> {
@@ -32,8 +21,8 @@ mod tests {
 
     // Loses a write of nines to block 0, comes back, and tells what the block then begins with.
     fn after_loss<D: Device>(rt: &impl Abort, device: &mut D) -> Result<u8, Fail> {
-        assert!(rt; matches!(device.write(0, &[9; 512]), Err(DeviceError::Offline)));
-        assert!(rt; matches!(device.read(0), Err(DeviceError::Offline)));
+        assert_eq!(rt; device.write(0, &[9; 512]), Err(DeviceError::Offline));
+        assert_eq!(rt; device.read(0), Err(DeviceError::Offline));
         assert!(rt; device.bring_online().is_ok());
         first(device, 0)
     }
@@ -44,8 +33,8 @@ mod tests {
         let mut image = Image::new(&mut data);
         assert!(rt; image.count() == 2);
         assert!(rt; image.write(1, &[7; 512]).is_ok());
-        assert!(rt; matches!(image.write(2, &[8; 512]), Err(DeviceError::Outside)));
-        assert!(rt; matches!(image.read(2), Err(DeviceError::Outside)));
+        assert_eq!(rt; image.write(2, &[8; 512]), Err(DeviceError::Outside));
+        assert_eq!(rt; image.read(2), Err(DeviceError::Outside));
         assert_eq!(rt; first(&image, 0)?, 5);
         assert_eq!(rt; first(&image, 1)?, 7);
         assert!(rt; data[511] == 5 && data[512] == 7 && data[1023] == 7 && data[1024] == 5);
@@ -63,7 +52,7 @@ mod tests {
         assert!(rt; mirror.count() == 2);
         assert_eq!(rt; first(&mirror, 1)?, 1);
         assert!(rt; mirror.write(1, &[9; 512]).is_ok());
-        assert!(rt; matches!(mirror.write(2, &[9; 512]), Err(DeviceError::Outside)));
+        assert_eq!(rt; mirror.write(2, &[9; 512]), Err(DeviceError::Outside));
         assert!(rt; one[0] == 1 && one[512] == 9 && one[1024] == 1 && two[0] == 2 && two[512] == 9);
         Ok(())
     }
@@ -76,7 +65,7 @@ mod tests {
             let mut two = [Some([2; 512])];
             let mut mirror = Mirror {
                 left: Image::new(&mut one),
-                right: failing(&mut two, 0, leaves),
+                right: Failing::new(&mut two, 0, leaves),
             };
             assert_eq!(rt; after_loss(&rt, &mut mirror)?, 1);
         }
@@ -91,10 +80,10 @@ mod tests {
             let mut one = [Some([1; 512])];
             let mut two = [2u8; 512];
             let mut mirror = Mirror {
-                left: failing(&mut one, 0, leaves),
+                left: Failing::new(&mut one, 0, leaves),
                 right: Image::new(&mut two),
             };
-            let kept = if matches!(leaves, Remains::New) { 9 } else { 1 };
+            let kept = if leaves == Remains::New { 9 } else { 1 };
             assert_eq!(rt; after_loss(&rt, &mut mirror)?, kept);
             assert!(rt; two[0] == 1);
         }
@@ -109,7 +98,7 @@ mod tests {
             let mut two = [Some([2; 512])];
             let mut mirror = Mirror {
                 left: Image::new(&mut one),
-                right: failing(&mut two, 1, leaves),
+                right: Failing::new(&mut two, 1, leaves),
             };
             assert_eq!(rt; after_loss(&rt, &mut mirror)?, 9);
         }
@@ -122,8 +111,8 @@ mod tests {
         let mut one = [None];
         let mut two = [Some([2; 512])];
         let mut mirror = Mirror {
-            left: failing(&mut one, 0, Remains::Unreadable),
-            right: failing(&mut two, 0, Remains::Unreadable),
+            left: Failing::new(&mut one, 0, Remains::Unreadable),
+            right: Failing::new(&mut two, 0, Remains::Unreadable),
         };
         assert_eq!(rt; first(&mirror, 0)?, 2);
         assert_eq!(rt; after_loss(&rt, &mut mirror)?, 2);
@@ -137,8 +126,8 @@ mod tests {
     fn sides_come_online(rt: HostRuntime) -> Result<(), Fail> {
         let mut one = [Some([1; 512])];
         let mut two = [Some([2; 512])];
-        let mut left = failing(&mut one, 0, Remains::Old);
-        let mut right = failing(&mut two, 0, Remains::Old);
+        let mut left = Failing::new(&mut one, 0, Remains::Old);
+        let mut right = Failing::new(&mut two, 0, Remains::Old);
         left.recovers = false;
         right.online = false;
         let mut mirror = Mirror {
@@ -146,7 +135,7 @@ mod tests {
             right: &mut right,
         };
         assert!(rt; mirror.bring_online().is_err());
-        assert!(rt; matches!(left.read(0), Err(DeviceError::Offline)));
+        assert_eq!(rt; left.read(0), Err(DeviceError::Offline));
         assert_eq!(rt; first(&right, 0)?, 2);
         Ok(())
     }
@@ -158,7 +147,7 @@ mod tests {
         let mut two = [2u8; 512];
         let mut three = [3u8; 512];
         let inner = Mirror {
-            left: failing(&mut one, 0, Remains::Unreadable),
+            left: Failing::new(&mut one, 0, Remains::Unreadable),
             right: Image::new(&mut two),
         };
         let mut outer = Mirror {
