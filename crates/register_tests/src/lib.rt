@@ -4,8 +4,9 @@
 #[cfg(test)]
 mod tests {
     use device::{Entry, Failing, Image, Remains};
-    use fault::{Fault, Place};
+    use fault::{Damage, Fault};
     use items::{Label, WardBox};
+    use pairing::Counts;
     use plans::Opened;
     use register::{SideFault, same, store, take};
     use startup::{make, open};
@@ -43,91 +44,75 @@ mod tests {
         Ok(())
     }
 
-    // The refusal's number and block, and its cause, 0 where it has none.
-    fn told(fault: &Fault) -> (u8, u16, u8) {
-        let block = match fault.place() {
-            Place::Block(b) => b,
-            _ => 999,
-        };
-        let cause = match fault.damage() {
-            Some(damage) => damage.number(),
-            None => 0,
-        };
-        (fault.number(), block, cause)
-    }
-
-    // How a register of labels in these bytes is refused.
-    fn refusal(bytes: &mut [u8]) -> Result<(u8, u16, u8), Fail> {
+    // How a register of labels in these bytes is refused, read as both of the two compared.
+    fn refusal(bytes: &mut [u8]) -> Option<SideFault> {
         let image = Image::new(bytes);
-        match same::<Label, Image, Image>(&image, &image) {
-            Ok(_) => Ok((0, 0, 0)),
-            Err(SideFault::Left(fault)) => Ok(told(&fault)),
-            Err(SideFault::Right(_)) => Err(Fail::new("the left register is read first")),
-        }
+        same::<Label, Image, Image>(&image, &image).err()
     }
 
-    // a byte, what is put there, and the refusal: its number, block and cause
-    const DAMAGES: [(usize, u8, (u8, u16, u8)); 34] = [
+    // a byte, what is put there, and the block that is refused with its damage
+    const DAMAGES: [(usize, u8, (u16, Damage)); 34] = [
         // the mark, and bytes that should be zero
-        (0, b'X', (3, 0, 2)),
-        (5, 1, (3, 0, 2)),
-        (20, 1, (3, 0, 2)),
-        (40, 1, (3, 0, 2)),
-        (511, 1, (3, 0, 2)),
+        (0, b'X', (0, Damage::Mark)),
+        (5, 1, (0, Damage::Mark)),
+        (20, 1, (0, Damage::Mark)),
+        (40, 1, (0, Damage::Mark)),
+        (511, 1, (0, Damage::Mark)),
         // the kind: none, and another
-        (4, 3, (3, 0, 3)),
-        (4, 0, (3, 0, 3)),
-        (4, 2, (3, 0, 5)),
+        (4, 3, (0, Damage::Range)),
+        (4, 0, (0, Damage::Range)),
+        (4, 2, (0, Damage::OtherKind)),
         // M: 0, 1 (below k), 258 (the sum)
-        (8, 0, (3, 0, 3)),
-        (8, 1, (3, 0, 3)),
-        (9, 1, (3, 0, 4)),
+        (8, 0, (0, Damage::Range)),
+        (8, 1, (0, Damage::Range)),
+        (9, 1, (0, Damage::Disagreement)),
         // M above 512
-        (9, 4, (3, 0, 3)),
+        (9, 4, (0, Damage::Range)),
         // k: above M; the sum
-        (10, 3, (3, 0, 3)),
-        (10, 1, (3, 0, 4)),
+        (10, 3, (0, Damage::Range)),
+        (10, 1, (0, Damage::Disagreement)),
         // N: below k; not the number of ones
-        (12, 1, (3, 0, 3)),
-        (12, 4, (3, 6, 4)),
+        (12, 1, (0, Damage::Range)),
+        (12, 4, (6, Damage::Disagreement)),
         // c1: the sum; c2: N + D above 32,768
-        (14, 1, (3, 0, 4)),
-        (17, 128, (3, 0, 3)),
+        (14, 1, (0, Damage::Disagreement)),
+        (17, 128, (0, Damage::Range)),
         // q: too few for w; from 2^32 on; w above 64 q
-        (24, 0, (3, 0, 3)),
-        (28, 1, (3, 0, 3)),
-        (32, 255, (3, 0, 3)),
+        (24, 0, (0, Damage::Range)),
+        (28, 1, (0, Damage::Range)),
+        (32, 255, (0, Damage::Range)),
         // the journal header: another mark, a wrong zero
-        (512, b'G', (3, 1, 2)),
-        (700, 1, (3, 1, 2)),
+        (512, b'G', (1, Damage::Mark)),
+        (700, 1, (1, Damage::Mark)),
         // the stock: one more; 13 for 11, which slot 1 has
-        (3073, 60, (3, 6, 4)),
-        (6656, 1, (3, 6, 4)),
-        (3073, 52, (3, 14, 4)),
+        (3073, 60, (6, Damage::Disagreement)),
+        (6656, 1, (6, Damage::Disagreement)),
+        (3073, 52, (14, Damage::Disagreement)),
         // slot 0: the number of slot 1, a number from 32,768 on, a wrong zero, forms
-        (7168, 11, (3, 14, 4)),
-        (7169, 128, (3, 14, 3)),
-        (7170, 1, (3, 14, 2)),
-        (7172, 9, (3, 14, 3)),
-        (7231, 1, (3, 14, 3)),
+        (7168, 11, (14, Damage::Disagreement)),
+        (7169, 128, (14, Damage::Range)),
+        (7170, 1, (14, Damage::Mark)),
+        (7172, 9, (14, Damage::Range)),
+        (7231, 1, (14, Damage::Range)),
         // slots that are not in use
-        (7296, 1, (3, 14, 2)),
-        (7680, 1, (3, 15, 2)),
-        (39935, 1, (3, 77, 2)),
+        (7296, 1, (14, Damage::Mark)),
+        (7680, 1, (15, Damage::Mark)),
+        (39935, 1, (77, Damage::Mark)),
     ];
 
     #[test]
     fn damages_are_told(rt: HostRuntime) -> Result<(), Fail> {
         let mut good = [0u8; BYTES];
         three_packs(&rt, &mut good)?;
-        assert_eq!(rt; refusal(&mut good)?, (0, 0, 0));
-        for (at, byte, expected) in DAMAGES {
+        assert_eq!(rt; refusal(&mut good), None);
+        for (at, byte, (block, damage)) in DAMAGES {
             let mut bytes = good;
             assert!(rt; at < BYTES);
             if at < BYTES {
                 bytes[at] = byte;
             }
-            assert_eq!(rt; refusal(&mut bytes)?, expected);
+            let fault = Fault::not_register(block, damage);
+            assert_eq!(rt; refusal(&mut bytes), Some(SideFault::Left(fault)));
         }
         Ok(())
     }
@@ -137,20 +122,18 @@ mod tests {
     fn unreadable_blocks_are_told(rt: HostRuntime) -> Result<(), Fail> {
         let good = two_packs(2)?;
         for (block, expected) in [
-            (0, (3, 0, 1)),
-            (6, (3, 6, 1)),
-            (13, (3, 13, 1)),
-            (14, (3, 14, 1)),
-            (77, (3, 77, 1)),
-            (1, (4, 1, 0)),
+            (0, Fault::not_register(0, Damage::Unreadable)),
+            (6, Fault::not_register(6, Damage::Unreadable)),
+            (13, Fault::not_register(13, Damage::Unreadable)),
+            (14, Fault::not_register(14, Damage::Unreadable)),
+            (77, Fault::not_register(77, Damage::Unreadable)),
+            (1, Fault::NOT_FREE),
         ] {
             let mut entries = good;
             entries[block] = None;
-            let device = lost_after(&mut entries, 0, Remains::Old);
-            match same::<Label, Failing, Failing>(&device, &device) {
-                Err(SideFault::Left(fault)) => assert_eq!(rt; told(&fault), expected),
-                _ => return Err(Fail::new("an unreadable block")),
-            }
+            let device = Failing::new(&mut entries, 0, Remains::Old);
+            let answer = same::<Label, Failing, Failing>(&device, &device);
+            assert_eq!(rt; answer, Err(SideFault::Left(expected)));
         }
         Ok(())
     }
@@ -161,44 +144,27 @@ mod tests {
         let mut bytes = [0u8; BYTES];
         three_packs(&rt, &mut bytes)?;
         let mut image = Image::new(&mut bytes);
-        match open::<WardBox, Image>(&mut image) {
-            Ok(_) => return Err(Fail::new("another kind")),
-            Err(fault) => assert_eq!(rt; told(&fault), (3, 0, 5)),
-        }
+        let other_kind = Fault::not_register(0, Damage::OtherKind);
+        assert_eq!(rt; open::<WardBox, Image>(&mut image), Err(other_kind));
         let mut short = [0u8; 77 * 512];
         let mut image = Image::new(&mut short);
-        match open::<Label, Image>(&mut image) {
-            Ok(_) => return Err(Fail::new("77 blocks")),
-            Err(fault) => assert!(rt;
-                fault.number() == 2 && matches!(fault.place(), Place::Count(77))
-            ),
-        }
-        match make::<Label, Image>(&mut image, 513) {
-            Ok(()) => Err(Fail::new("capacity 513")),
-            Err(fault) => {
-                assert_eq!(rt; fault.number(), 11);
-                Ok(())
-            },
-        }
+        assert_eq!(rt;
+            open::<Label, Image>(&mut image),
+            Err(Fault::too_few_blocks(77))
+        );
+        assert_eq!(rt;
+            make::<Label, Image>(&mut image, 513),
+            Err(Fault::BAD_CAPACITY)
+        );
+        Ok(())
     }
 
     // ---- power failures
 
-    // A device that does so many writes, and then loses each.
-    fn lost_after(entries: &mut [Entry], good: u16, leaves: Remains) -> Failing<'_> {
-        Failing {
-            entries,
-            online: true,
-            good,
-            leaves,
-            recovers: true,
-        }
-    }
-
     // A register with capacity 2 and packs 10 and 11, or only 10.
     fn two_packs(packs: u16) -> Result<[Entry; 78], Fail> {
         let mut entries = [Some([0; 512]); 78];
-        let mut device = lost_after(&mut entries, 1000, Remains::Old);
+        let mut device = Failing::new(&mut entries, 1000, Remains::Old);
         let tape = word(0);
         let source = Tape { bytes: &tape };
         let label = label()?;
@@ -209,7 +175,7 @@ mod tests {
         Ok(entries)
     }
 
-    // The calls that are interrupted.
+    // The calls that are interrupted. As closures they would want invariants written for the loops that call them.
     #[derive(Clone, Copy)]
     enum Tried {
         // Store 5000, drawing from a tape with this word
@@ -217,37 +183,32 @@ mod tests {
         Take(u16),
     }
 
-    // Does the call, which must be interrupted at this block.
-    fn interrupt(
-        rt: &impl Abort,
-        device: &mut Failing,
-        tried: Tried,
-        block: u16,
-    ) -> Result<(), Fail> {
-        let fault = match tried {
+    // How the call is refused.
+    fn interrupt(device: &mut Failing, tried: Tried) -> Result<Option<Fault>, Fail> {
+        match tried {
             Tried::Store(n) => {
                 let tape = word(n);
-                store(device, 5000, &label()?, &Tape { bytes: &tape }).err()
+                Ok(store(device, 5000, &label()?, &Tape { bytes: &tape }).err())
             }
-            Tried::Take(number) => take::<Label, Failing>(device, number).err(),
-        };
-        match fault {
-            Some(fault) => {
-                assert_eq!(rt; told(&fault), (1, block, 0));
-                Ok(())
-            },
-            None => Err(Fail::new("a lost write")),
+            Tried::Take(number) => Ok(take::<Label, Failing>(device, number).err()),
         }
     }
 
-    // N, k, c1, c2, q and w
-    fn counts(opened: &Opened) -> (u16, u16, u16, u16, u32, u64) {
-        let n = opened.counts;
-        (n.size, n.sampled, n.c1, n.c2, n.calls, n.words)
+    // The counters of a register with capacity 2: N, k, c1, c2, q and w.
+    fn counted(size: u16, sampled: u16, c1: u16, c2: u16, calls: u32, words: u64) -> Counts {
+        Counts {
+            capacity: 2,
+            size,
+            sampled,
+            c1,
+            c2,
+            calls,
+            words,
+        }
     }
 
     fn reopened(entries: &mut [Entry]) -> Result<Opened, Fail> {
-        let mut device = lost_after(entries, 1000, Remains::Old);
+        let mut device = Failing::new(entries, 1000, Remains::Old);
         Ok(open::<Label, Failing>(&mut device)?)
     }
 
@@ -257,22 +218,25 @@ mod tests {
         start: &[Entry; 78],
         tried: Tried,
         blocks: [u16; 10],
-        before: (u16, u16, u16, u16, u32, u64),
-        after: (u16, u16, u16, u16, u32, u64),
+        before: Counts,
+        after: Counts,
     ) -> Result<(), Fail> {
         for (n, block) in blocks.iter().enumerate() {
             for leaves in LEAVES {
                 let mut entries = *start;
-                let mut device = lost_after(&mut entries, n as u16, leaves);
-                interrupt(rt, &mut device, tried, *block)?;
-                let committed = n >= 5 || n == 4 && matches!(leaves, Remains::New);
+                let mut device = Failing::new(&mut entries, n as u16, leaves);
+                assert_eq!(rt;
+                    interrupt(&mut device, tried)?,
+                    Some(Fault::offline(*block))
+                );
+                let committed = n >= 5 || n == 4 && leaves == Remains::New;
                 let opened = reopened(&mut entries)?;
-                assert_eq!(rt; counts(&opened), if committed { after } else { before });
+                assert_eq!(rt; opened.counts, if committed { after } else { before });
                 // Open finishes what is pending: not where the free header is there already, or where the header is unreadable
-                let pending = committed && (n < 9 || matches!(leaves, Remains::Old));
+                let pending = committed && (n < 9 || leaves == Remains::Old);
                 assert!(rt; opened.finished.is_some() == pending);
                 let again = reopened(&mut entries)?;
-                assert_eq!(rt; counts(&again), counts(&opened));
+                assert_eq!(rt; again.counts, opened.counts);
                 assert!(rt; again.finished.is_none());
             }
         }
@@ -290,8 +254,8 @@ mod tests {
             &start,
             Tried::Store(0),
             STORE_BLOCKS,
-            (1, 1, 0, 0, 1, 0),
-            (2, 2, 0, 0, 2, 0),
+            counted(1, 1, 0, 0, 1, 0),
+            counted(2, 2, 0, 0, 2, 0),
         )
     }
 
@@ -303,8 +267,8 @@ mod tests {
             &start,
             Tried::Store(0),
             STORE_BLOCKS,
-            (2, 2, 0, 0, 2, 0),
-            (3, 2, 0, 0, 3, 1),
+            counted(2, 2, 0, 0, 2, 0),
+            counted(3, 2, 0, 0, 3, 1),
         )
     }
 
@@ -316,8 +280,8 @@ mod tests {
             &start,
             Tried::Store(2),
             STORE_BLOCKS,
-            (2, 2, 0, 0, 2, 0),
-            (3, 2, 0, 0, 3, 1),
+            counted(2, 2, 0, 0, 2, 0),
+            counted(3, 2, 0, 0, 3, 1),
         )
     }
 
@@ -331,8 +295,8 @@ mod tests {
             &start,
             Tried::Take(10),
             TAKE_BLOCKS,
-            (2, 2, 0, 0, 2, 0),
-            (1, 1, 1, 0, 3, 0),
+            counted(2, 2, 0, 0, 2, 0),
+            counted(1, 1, 1, 0, 3, 0),
         )
     }
 
@@ -340,15 +304,15 @@ mod tests {
     fn take_out_of_the_sample(rt: HostRuntime) -> Result<(), Fail> {
         let mut start = two_packs(2)?;
         let tape = word(2);
-        let mut device = lost_after(&mut start, 1000, Remains::Old);
+        let mut device = Failing::new(&mut start, 1000, Remains::Old);
         store(&mut device, 12, &label()?, &Tape { bytes: &tape })?;
         fail_everywhere(
             &rt,
             &start,
             Tried::Take(12),
             TAKE_BLOCKS,
-            (3, 2, 0, 0, 3, 1),
-            (2, 2, 0, 1, 4, 1),
+            counted(3, 2, 0, 0, 3, 1),
+            counted(2, 2, 0, 1, 4, 1),
         )
     }
 
@@ -368,7 +332,7 @@ mod tests {
         let (calls, slot) = take::<Label, Image>(&mut image, 10)?;
         assert!(rt; calls == 6 && slot.is_none());
         let opened = open::<Label, Image>(&mut image)?;
-        assert_eq!(rt; counts(&opened), (2, 1, 1, 1, 6, 2));
+        assert_eq!(rt; opened.counts, counted(2, 1, 1, 1, 6, 2));
         assert!(rt; bytes[7168] == 13 && bytes[7169] == 0);
         Ok(())
     }
