@@ -35,16 +35,6 @@ pub(crate) fn demo(rt: &HostRuntime) -> anyhow::Result<()> {
     Ok(())
 }
 
-fn device(entries: &mut [Entry], good: u16) -> Failing<'_> {
-    Failing {
-        entries,
-        online: true,
-        good,
-        leaves: Remains::Unreadable,
-        recovers: true,
-    }
-}
-
 // Makes a register with capacity 2 and does the scans, until the power fails.
 fn scan_until_failure<W: Write>(
     rt: &HostRuntime,
@@ -54,14 +44,13 @@ fn scan_until_failure<W: Write>(
     let table = entries(rt, SCANS.as_bytes())?;
     let words = Window::on(Tape { bytes: &WORDS }, 0);
     let mut calls = Vec::with_capacity(rt.alloc(), table.len())?;
-    let mut replies = Vec::with_capacity(rt.alloc(), table.len())?;
     for entry in table.as_slice() {
         if let Ok(transaction) = *entry {
             calls.push(call_of(transaction, words))?;
-            replies.push(Err(Fault::TOO_SHORT))?;
         }
     }
-    let mut failing = device(blocks, GOOD_WRITES);
+    let mut replies = vec![in rt.alloc(); Err(Fault::TOO_SHORT); calls.len()]?;
+    let mut failing = Failing::new(blocks, GOOD_WRITES, Remains::Unreadable);
     writeln!(
         out,
         "capacity 2; after {GOOD_WRITES} writes the power fails"
@@ -100,7 +89,7 @@ fn open_and_report<W: Write>(
     blocks: &mut [Entry],
 ) -> anyhow::Result<()> {
     let mut page = blank_page(rt.alloc())?;
-    let mut sound = device(blocks, 1000);
+    let mut sound = Failing::new(blocks, 1000, Remains::Unreadable);
     let calls: [Call<Label, WardBox, Window>; 1] = [Call::Own(Request::Report)];
     let mut replies = [Err(Fault::TOO_SHORT)];
     let opened = resume(&mut sound, &calls, page.as_mut_slice(), &mut replies)?;

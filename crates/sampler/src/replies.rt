@@ -20,8 +20,7 @@ pub(crate) fn call_of(transaction: Transaction, words: Window) -> Call<Label, Wa
 
 pub(crate) fn number_of(transaction: Transaction) -> u16 {
     match transaction {
-        Transaction::Store { number, label: _ } => number,
-        Transaction::Take { number } => number,
+        Transaction::Store { number, label: _ } | Transaction::Take { number } => number,
     }
 }
 

@@ -71,6 +71,7 @@ fn report_into<K: Kind, J: Kind>(
 ) -> anyhow::Result<Counts> {
     let mut bytes = read_file(rt, path)?;
     let mut image = Image::new(bytes.as_mut_slice());
+    // a Vec: of an array of items of two type parameters it is not proved that it fits in memory
     let mut calls: Vec<Call<K, J, Window>> = Vec::with_capacity(rt.alloc(), 1)?;
     calls.push(Call::Own(Request::Report))?;
     let mut replies = [Err(Fault::TOO_SHORT)];

@@ -23,10 +23,7 @@ impl Source for Window {
     ghost words = { λ w. window_word w.first w.words };
 
     fn word(&self, place: u64) -> Option<u32> {
-        if place < self.first {
-            return None;
-        }
-        let i = place - self.first;
-        if i < 64 { self.words[i as usize] } else { None }
+        let i = place.checked_sub(self.first)?;
+        *self.words.get(i as usize)?
     }
 }
