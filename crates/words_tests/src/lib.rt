@@ -3,19 +3,20 @@
 
 #[cfg(test)]
 mod tests {
+    use fault::Fault;
     use words::{Drawn, Fallback, Source, Tape, Width};
 
     // Whether a draw of the width from the place gives the value, and uses so many words.
     fn draws<S: Source>(source: &S, width: u16, place: u64, value: u16, used: u8) -> bool {
         Width::new(width).is_some_and(|width| {
-            words::draw(source, width, place).is_ok_and(|drawn| drawn == Drawn { value, used })
+            words::draw(source, width, place) == Ok(Drawn { value, used })
         })
     }
 
-    // Whether it is refused with number 10.
+    // Whether it is refused, as no draw is given.
     fn refuses<S: Source>(source: &S, width: u16, place: u64) -> bool {
         Width::new(width).is_some_and(|width| {
-            words::draw(source, width, place).is_err_and(|fault| fault.number() == 10)
+            words::draw(source, width, place) == Err(Fault::NO_DRAW)
         })
     }
 
