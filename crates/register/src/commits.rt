@@ -71,7 +71,8 @@ pub(crate) fn head_change<K: Kind>(counters: Counters) -> Write
     }
 }
 
-// Refuses a number above 32,767.
+// Refuses a number above 32,767. Each crate tests this bound for itself, for each has an answer for every u16: a type of pack
+// numbers would ask more of callers.
 pub(crate) fn check_number(number: u16) -> Result<(), Fault>
     ensures { result ≡ refused_if (nat_lt 32767 number) number_too_large (Ok tt) }
 {

@@ -28,7 +28,8 @@ fn place_of(numbers: &[u16], number: u16) -> Option<usize>
     numbers.iter().position(|n| *n == number)
 }
 
-// The j-th block of slots with new bytes in a slot, if that is one of its eight.
+// The j-th block of slots with new bytes in a slot, if that is one of its eight. A store knows its slot's block, and has no
+// such test.
 fn change_slot(block: [u8; 512], j: u16, slot: u16, bytes: &[u8; 64]) -> [u8; 512]
     ensures { result ≡ changed_in block j slot bytes.now }
 {

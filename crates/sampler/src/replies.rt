@@ -1,4 +1,5 @@
-// What is asked of a register by a transaction, and its answer in words.
+// What is asked of a register by a transaction, and its answer in words. The words are the program's and not a `Display` of
+// the session's answers: other programs say them otherwise.
 use crate::windows::Window;
 use fault::Fault;
 use items::{Label, WardBox};
