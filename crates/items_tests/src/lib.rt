@@ -40,6 +40,7 @@ mod tests {
         ];
         for (code, lawful) in cases {
             let shown = label(heap, code, "", "")?;
+            // by its text, as the cases of a label's other sections
             let refused = shown.as_str() == "refusal 8 (item), section 1: the item is unlawful";
             assert_eq!(rt; refused, !lawful, "{}", code);
         }
@@ -79,16 +80,12 @@ mod tests {
     // Forms by hand: sections after their count bytes, and a difference of -250, which is FF06 in two's complement.
     #[test]
     fn forms(rt: HostRuntime) -> Result<(), Fail> {
-        let Ok(label) = Label::new(b"12345670", b"AB12", b"280229") else {
-            return Err(Fail::new("the label is lawful"));
-        };
+        let label = Label::new(b"12345670", b"AB12", b"280229")?;
         let form = label.to_form();
         assert!(rt; form[0] == 8 && form[1] == b'1' && form[8] == b'0');
         assert!(rt; form[9] == 4 && form[10] == b'A' && form[13] == b'2');
         assert!(rt; form[14] == 6 && form[15] == b'2' && form[20] == b'9' && form[21] == 0);
-        let Ok(ward) = WardBox::new(b"A12", Some(-250)) else {
-            return Err(Fail::new("the box is lawful"));
-        };
+        let ward = WardBox::new(b"A12", Some(-250))?;
         let form = ward.to_form();
         assert!(rt; form[0] == 3 && form[1] == b'A' && form[3] == b'2');
         assert!(rt; form[4] == 1 && form[5] == 6 && form[6] == 255 && form[7] == 0);
@@ -100,9 +97,7 @@ mod tests {
     fn kinds(rt: HostRuntime) -> Result<(), Fail> {
         let heap = rt.alloc();
         for (word, code) in [("label", 1), ("box", 2)] {
-            let Ok(kind) = word.parse::<ItemKind>() else {
-                return Err(Fail::new("the word names a kind"));
-            };
+            let kind = word.parse::<ItemKind>()?;
             let shown = format!(in heap; "{kind}")?;
             assert!(rt; u8::from(kind) == code && ItemKind::try_from(code) == Ok(kind));
             assert!(rt; shown.as_str() == word, "{shown}");

@@ -1,6 +1,6 @@
 // One story in memory: a register is made, packs are scanned, the power fails in the middle of a store, and Open finishes it.
 use crate::replies::{call_of, number_of, print_reply};
-use crate::reports::{blank_page, expiring, print_sample};
+use crate::reports::{blank_page, print_early, print_sample};
 use crate::scans::entries;
 use crate::windows::Window;
 use device::{Entry, Failing, Remains};
@@ -65,7 +65,7 @@ fn scan_until_failure<W: Write>(
     print_replies(out, table.as_slice(), replies.as_slice())
 }
 
-// A line for each transaction, with its answer.
+// A line for each transaction, with its answer. A scan of a file prints its refused lines too, in a loop of its own.
 fn print_replies<W: Write>(
     out: &mut W,
     table: &[intake::Entry],
@@ -96,13 +96,12 @@ fn open_and_report<W: Write>(
     print_finished(out, opened.finished)?;
     if let Ok(Answer::Reported(counts)) = replies[0] {
         print_sample::<Label, W>(out, counts, page.as_slice())?;
-        let early = expiring(page.as_slice(), counts.sampled, b"270101");
-        let sampled = counts.sampled;
-        writeln!(out, "expire before 270101: {early} of {sampled} sampled")?;
+        print_early(out, counts, page.as_slice(), "270101")?;
     }
     Ok(())
 }
 
+// What Open did, in the words of the story.
 fn print_finished<W: Write>(out: &mut W, finished: Option<Finished>) -> anyhow::Result<()> {
     match finished {
         Some(Finished::Store { number, draw }) => writeln!(

@@ -37,10 +37,10 @@ fn run(rt: &HostRuntime) -> anyhow::Result<()> {
         return usage(rt);
     };
     match command.as_str() {
-        "intake" => match args.next() {
-            Some(path) => scans::intake_file(rt, path.as_str()),
-            None => scans::intake_input(rt),
-        },
+        "intake" => {
+            let path = args.next();
+            scans::intake_lines(rt, path.as_ref().map(|path| path.as_str()))
+        }
         "make" => match (args.next(), args.next(), args.next()) {
             (Some(image), Some(capacity), Some(kind)) => {
                 registers::make_image(rt, image.as_str(), capacity.as_str(), kind.as_str())

@@ -52,9 +52,7 @@ pub(crate) fn report_until(
     let counts = report_into::<Label, WardBox>(rt, path, page.as_mut_slice())?;
     let mut out = BufWriter::new(rt.alloc(), rt.stdout())?;
     print_sample::<Label, _>(&mut out, counts, page.as_slice())?;
-    let early = expiring(page.as_slice(), counts.sampled, day.as_bytes());
-    let sampled = counts.sampled;
-    writeln!(out, "expire before {day}: {early} of {sampled} sampled")?;
+    print_early(&mut out, counts, page.as_slice(), day)?;
     out.flush()?;
     Ok(())
 }
@@ -86,7 +84,7 @@ fn report_into<K: Kind, J: Kind>(
     }
 }
 
-// The counters, and a line for each slot in use.
+// The counters, in the program's own words, and a line for each slot in use.
 pub(crate) fn print_sample<K: Kind + fmt::Display, W: Write>(
     out: &mut W,
     counts: Counts,
@@ -118,8 +116,21 @@ pub(crate) fn print_sample<K: Kind + fmt::Display, W: Write>(
     Ok(())
 }
 
+// How many labels of the sample expire before the day.
+pub(crate) fn print_early<W: Write>(
+    out: &mut W,
+    counts: Counts,
+    page: &[u8],
+    day: &str,
+) -> anyhow::Result<()> {
+    let sampled = counts.sampled;
+    let early = expiring(page, sampled, day.as_bytes());
+    writeln!(out, "expire before {day}: {early} of {sampled} sampled")?;
+    Ok(())
+}
+
 // How many labels in the first slots of the page expire before the day.
-pub(crate) fn expiring(page: &[u8], sampled: u16, day: &[u8]) -> usize {
+fn expiring(page: &[u8], sampled: u16, day: &[u8]) -> usize {
     page.chunks(SLOT)
         .take(usize::from(sampled))
         .filter_map(|slot| Label::from_form(slot.get(4..)?))

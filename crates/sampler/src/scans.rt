@@ -4,13 +4,12 @@ use fault::Fault;
 use intake::{Entry, count_lines, intake};
 use std::io::{BufWriter, Write};
 
-pub(crate) fn intake_file(rt: &HostRuntime, path: &str) -> anyhow::Result<()> {
-    let input = read_file(rt, path)?;
-    print(rt, entries(rt, input.as_slice())?.as_slice())
-}
-
-pub(crate) fn intake_input(rt: &HostRuntime) -> anyhow::Result<()> {
-    let input = read_input(rt)?;
+// Prints what each line of the file means, or of standard input where no file is named.
+pub(crate) fn intake_lines(rt: &HostRuntime, path: Option<&str>) -> anyhow::Result<()> {
+    let input = match path {
+        Some(path) => read_file(rt, path)?,
+        None => read_input(rt)?,
+    };
     print(rt, entries(rt, input.as_slice())?.as_slice())
 }
 
