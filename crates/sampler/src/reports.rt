@@ -73,9 +73,8 @@ fn report_into<K: Kind, J: Kind>(
     let mut calls: Vec<Call<K, J, Window>> = Vec::with_capacity(rt.alloc(), 1)?;
     calls.push(Call::Own(Request::Report))?;
     let mut replies = [Err(Fault::TOO_SHORT)];
-    let opened = resume(&mut image, calls.as_slice(), page, &mut replies).map_err(|fault| refused(
-        path, fault,
-    ))?;
+    let opened = resume(&mut image, calls.as_slice(), page, &mut replies);
+    let opened = opened.map_err(|fault| refused(path, fault))?;
     if opened.finished.is_some() {
         save(rt, path, bytes.as_slice())?;
     }

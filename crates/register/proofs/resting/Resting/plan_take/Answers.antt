@@ -1,5 +1,3 @@
-use Rattle.std.proofs.Common.{sym, ap, ◌∙◌, subst}
-use Rattle.pairing.specs.Rules.{CanTake, after_take}
 use Rattle.register.specs.Rested.{resting}
 use Rattle.register.proofs.Held.{ok_is}
 use Rattle.register.proofs.Taking.{some_after, none_after, take_can, took}

@@ -1,4 +1,4 @@
-use Rattle.std.proofs.Common.{◌∙◌, ap, sym, take, position, eqb}
+use Rattle.std.proofs.Common.{◌∙◌, ap, sym, position, eqb}
 use Rattle.register.proofs.Taking.{slot_is}
 use Rattle.register.proofs.resting.Resting.slot.Goals as goal
 
