@@ -29,7 +29,7 @@ fn check_page(page: &[u8]) -> Result<(), Fault>
 
 impl<K: Kind, D: Device> Resting<'_, K, D> {
     // The bytes of the j-th block of slots.
-    fn slots(&self, j: u16) -> Result<[u8; 512], Fault>
+    fn read_slots(&self, j: u16) -> Result<[u8; 512], Fault>
         requires { j < 64 }
         ensures { Laid (14 + j) → result ≡ Ok (content K.Kind.code K.Kind.form (kept_by K.Kind D.Device self.now) (14 + j)) }
     {
@@ -42,7 +42,7 @@ impl<K: Kind, D: Device> Resting<'_, K, D> {
         ensures { (result ≡ Ok tt) × (page.new ≡ reported K.Kind.code K.Kind.form (kept_by K.Kind D.Device self.now) page.old) }
     {
         for j in 0..64 {
-            let block = self.slots(j)?;
+            let block = self.read_slots(j)?;
             put(page, 512 * usize::from(j), &block);
         }
         Ok(())
