@@ -95,6 +95,16 @@ module _ {d : Disk} {b : ℕ} {new : List ℕ} where
   wrote_err (offline h o) l p = absurd (both_ways d.online o p)
   wrote_err (lost m h o) l p = (m, refl, refl, refl)
 
+  -- a write without an event changes nothing
+  pub wrote_nothing : {a : Result (Unit {0}) DeviceError} {d' : Disk} → Wrote d b new a [] d' → d' ≡ d
+  wrote_nothing (outside h) = refl
+  wrote_nothing (offline h o) = refl
+
+  -- after Offline the device is offline
+  pub wrote_offline : {es : List Event} {d' : Disk} → Wrote d b new (Err Offline) es d' → d'.online ≡ false
+  wrote_offline (offline h o) = o
+  wrote_offline (lost m h o) = refl
+
 -- the events decide the answer and the disk
 pub wrote_same :
     {d : Disk} {b : ℕ} {new : List ℕ} {a a' : Result (Unit {0}) DeviceError} {es : List Event} {d₁ d₂ : Disk} →
@@ -160,6 +170,13 @@ brought_ok came = (refl, refl)
 
 pub brought_err : {d : Disk} {x : DeviceError} {es : List Event} {d' : Disk} → BroughtOnline d (Err x) es d' → (x ≡ Offline) × (es ≡ online_refused ∷ []) × (d' ≡ turned d false)
 brought_err stayed = (refl, refl, refl)
+
+-- the events decide the answer and the disk
+pub brought_same :
+    {d : Disk} {a a' : Result (Unit {0}) DeviceError} {es : List Event} {d₁ d₂ : Disk} →
+    BroughtOnline d a es d₁ → BroughtOnline d a' es d₂ → (a ≡ a') × (d₁ ≡ d₂)
+brought_same came came = (refl, refl)
+brought_same stayed stayed = (refl, refl)
 
 pub brings : {d : Disk} {a : Result (Unit {0}) DeviceError} {es : List Event} {d' : Disk} → BroughtOnline d a es d' → Brings d a d'
 brings {es = es} t = record { events = es; brought = t; fixed = ap length (brought_entries t) }

@@ -90,6 +90,8 @@ impl Field<'_> {
         ensures step { (line : List ℕ) → Holds line self.old.state self.old.bytes.now → Scanned line byte result self.new.state self.new.bytes.now }
     {
         match (self.state, byte) {
+            // the field is zeros already
+            (State::Empty, CONFIRM | CANCEL) => None,
             (_, CONFIRM) => self.confirm(),
             (_, CANCEL) => {
                 self.clear();

@@ -112,7 +112,7 @@ fits p h =
 
 -- ---- a marked header is read by its fields
 
-read_marked :
+pub read_marked :
     (bs : List ℕ) (o : Option Pending) → bytes_eq bs free_bytes ≡ false → marked bs ≡ true → pending_of (fields_of bs) ≡ o →
     bytes_header bs ≡ or_unlawful o
 read_marked bs o other m is = cond-false _ _ _ other ∙ cond-true _ _ _ m ∙ ap or_unlawful is

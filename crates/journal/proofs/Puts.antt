@@ -1,7 +1,7 @@
 -- What the disk holds after writes, and the places of after-images.
 -- Assumes nothing.
-use Rattle.std.proofs.Common.{◌≡◌, ℕ, ◌+◌, ◌<◌, ◌≤◌, List, [], ◌∷◌, ◌++◌, length, refl, ap, ◌∙◌, arith, Some}
-use Rattle.device.specs.Disk.{Disk, blocks, entry_at, put}
+use Rattle.std.proofs.Common.{◌≡◌, ℕ, ◌+◌, ◌<◌, ◌≤◌, Bool, List, [], ◌∷◌, ◌++◌, length, refl, ap, ◌∙◌, arith, Some}
+use Rattle.device.specs.Disk.{Disk, blocks, entry_at, put, turned}
 use Rattle.device.proofs.Disk.{blocks_put, entry_at_put, entry_at_put_other}
 use Rattle.journal.specs.declared.Write.{Write}
 use Rattle.journal.specs.WriteLaws.{ImagesInPlace}
@@ -15,6 +15,14 @@ pub puts_blocks : (ws : List Write) (d : Disk) → blocks (puts ws d) ≡ blocks
 puts_blocks [] d = refl
 puts_blocks (w ∷ ws) d =
     puts_blocks ws (put d w.block (Some w.bytes)) ∙ blocks_put d w.block (Some w.bytes)
+
+pub puts_online : (ws : List Write) (d : Disk) → (puts ws d).online ≡ d.online
+puts_online [] d = refl
+puts_online (w ∷ ws) d = puts_online ws (put d w.block (Some w.bytes))
+
+pub puts_turned : (ws : List Write) (d : Disk) (o : Bool) → puts ws (turned d o) ≡ turned (puts ws d) o
+puts_turned [] d o = refl
+puts_turned (w ∷ ws) d o = puts_turned ws (put d w.block (Some w.bytes)) o
 
 pub puts_other : (ws : List Write) (d : Disk) (k : ℕ) → Spares k ws → entry_at (puts ws d) k ≡ entry_at d k
 puts_other [] d k n = refl

@@ -1,6 +1,6 @@
 -- What follows from a run of writes.
 -- Assumes nothing.
-use Rattle.std.proofs.Common.{◌≡◌, ℕ, ◌+◌, ◌<◌, true, false, List, [], ◌∷◌, ◌++◌, length, get_or, drop, IsErrAnd, MatchResult, Ok, Err, Result, sym, refl, ap, ◌∙◌, subst, arith, Some}
+use Rattle.std.proofs.Common.{◌≡◌, ℕ, zero, suc, ◌+◌, ◌<◌, true, false, List, [], ◌∷◌, ◌++◌, length, get_or, drop, replicate, IsErrAnd, MatchResult, Ok, Err, Result, sym, refl, ap, ◌∙◌, subst, arith, Some}
 use Rattle.std.specs.List.{AllByRecursion}
 use Rattle.std.proofs.lemmas.List.{drop_more}
 use Rattle.std.proofs.lemmas.Bool.{both_ways}
@@ -12,7 +12,7 @@ use Rattle.device.specs.Disk.{outside, offline, done, lost}
 use Rattle.device.proofs.Disk.{blocks_put, wrote_blocks, wrote_other, wrote_same}
 pub use Rattle.device.proofs.Disk.{exit_is}
 use Rattle.journal.specs.declared.Write.{Write}
-use Rattle.journal.specs.Writes.{Ran, Runs, finished, goes_on, stops, write_at, next_block, images_from, Inside, Spares}
+use Rattle.journal.specs.Writes.{Ran, Runs, finished, goes_on, stops, write_at, next_block, images_from, Inside, Spares, landed, leaves_new}
 use Rattle.journal.proofs.Puts.{puts_last}
 use Rattle.journal.specs.WriteLaws.{Done, Lost, RunsAsTold}
 
@@ -103,6 +103,14 @@ ran_same (stops h) (stops k) = (refl, (wrote_same h k).1)
 pub inside_moved : (ws : List Write) (d d₁ : Disk) → blocks d₁ ≡ blocks d → Inside ws d → Inside ws d₁
 inside_moved ws d d₁ e h = subst (λ n. AllByRecursion (λ w. w.block < n) ws) (sym e) h
 
+-- after a refusal on a device that has the blocks, the device is offline
+pub ran_offline :
+    {ws : List Write} {d d' : Disk} {x : Fault} {es : List Event} → Ran ws d (Err x) es d' → Inside ws d → d'.online ≡ false
+ran_offline (goes_on {ws = ws} {d = d} {d₁ = d₁} h r) n = ran_offline r (inside_moved ws d d₁ (wrote_blocks h) n.1)
+ran_offline (stops (outside h)) n = absurd (let k = n.0 in omega arith)
+ran_offline (stops (offline h o)) n = o
+ran_offline (stops (lost m h o)) n = refl
+
 pub ran_ok :
     {ws : List Write} {d d' : Disk} {es : List Event} → Ran ws d (Ok tt) es d' → Done ws d es d'
 ran_ok finished = record { disk = refl; events = refl; inside = tt; needed = λ some. absurd (omega arith); kept = refl }
@@ -164,6 +172,23 @@ runs_as_told = record {
   lost = λ ws d d' x es r n on. ran_err r n on;
   nothing = λ ws d d' x es r n off. ran_nothing r n off;
 }
+
+-- ---- which writes are in their blocks
+
+pub landed_before : (k n : ℕ) (es : List Event) → n < k → landed (suc n) (replicate k write_done ++ es) ≡ true
+landed_before zero n es h = absurd (omega arith)
+landed_before (suc k) zero es h = refl
+landed_before (suc k) (suc n) es h = landed_before k n es (omega arith)
+
+pub landed_here : (k : ℕ) (e : Event) → landed (suc k) (replicate k write_done ++ (e ∷ [])) ≡ leaves_new e
+landed_here zero e = refl
+landed_here (suc k) e = landed_here k e
+
+pub landed_behind : (k n : ℕ) (e : Event) → k < n → landed (suc n) (replicate k write_done ++ (e ∷ [])) ≡ false
+landed_behind zero zero e h = absurd (omega arith)
+landed_behind zero (suc n) e h = refl
+landed_behind (suc k) zero e h = absurd (omega arith)
+landed_behind (suc k) (suc n) e h = landed_behind k n e (omega arith)
 
 -- ---- one write
 

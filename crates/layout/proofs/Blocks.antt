@@ -1,11 +1,11 @@
 -- Blocks of 512 bytes: an array is one, and eight of them spell a set.
 -- Assumes nothing.
-use Rattle.std.proofs.Common.{◌≡◌, ℕ, zero, suc, ◌+◌, ◌*◌, ◌<◌, true, eqb, ltb, List, ◌++◌, length, take, sym, ap, ◌∙◌, append_assoc, arith, length-append, take_all}
+use Rattle.std.proofs.Common.{◌≡◌, ℕ, zero, suc, ◌+◌, ◌*◌, ◌<◌, true, eqb, ltb, List, ◌++◌, length, get_or, take, sym, ap, ◌∙◌, append_assoc, arith, length-append, take_all}
 use Rattle.std.proofs.lemmas.List.{append-nil, take_at, length-take-le}
 use Rattle.std.proofs.lemmas.Bool.{cond-true, lt-ltb, eq-eqb, eqb-true, and_from, and_parts}
 use Rattle.octets.specs.Edits.{written}
 use Rattle.octets.specs.Zeros.{every}
-use Rattle.octets.proofs.Under.{Under256}
+use Rattle.octets.proofs.Under.{Under256, under_from}
 use Rattle.layout.specs.Edits.{with_part}
 use Rattle.layout.specs.Layout.{joined}
 use Rattle.layout.specs.Reading.{is_block}
@@ -21,6 +21,9 @@ block_under xs h = (and_parts (eqb (length xs) 512) (every (λ b. ltb b 256) xs)
 pub block_from : (xs : List ℕ) → length xs ≡ 512 → Under256 xs → is_block xs ≡ true
 unfolding is_block
 block_from xs l h = and_from (eqb (length xs) 512) (every (λ b. ltb b 256) xs) (eq-eqb (length xs) 512 l) h
+
+pub array_is_block : (xs : List ℕ) → length xs ≡ 512 → ((i : ℕ) → get_or xs i 0 < 256) → is_block xs ≡ true
+array_is_block xs long small = block_from xs long (under_from xs small)
 
 -- one part more at the end
 pub joined_push : (part : ℕ → List ℕ) (i n : ℕ) → joined part i (n + 1) ≡ joined part i n ++ part (i + n)

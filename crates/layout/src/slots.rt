@@ -21,6 +21,7 @@ pub fn slot_bytes<K: Kind>(number: u16, item: &K) -> [u8; 64]
 }
 
 // The bytes of a slot, in the block that has it.
+#[tactic(auto, using(words::proofs::Chunks::chunk_at))]
 pub fn slot_in(block: &[u8; 512], slot: u16) -> [u8; 64]
     ensures { result ≡ take 64 (drop (64 * (slot % 8)) block.now) }
 {

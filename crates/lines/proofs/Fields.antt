@@ -2,7 +2,7 @@
 use Rattle.std.proofs.Common.{◌≡◌, ℕ, zero, suc, ◌+◌, ◌-◌, ◌<◌, ◌≤◌, Bool, true, false, cond, eqb, ◌⊎◌, List, [], ◌∷◌, ◌++◌, length, get_or, take, drop, replicate, Ok, Err, Result, sym, refl, ap, ◌∙◌, subst, inl, inr, append_assoc, append-nil, arith, length-append}
 use lib.ListN.{length-replicate}
 use Rattle.std.proofs.ByRecursion.{All-append}
-use Rattle.std.proofs.lemmas.List.{take_at, drop_at}
+use Rattle.std.proofs.lemmas.List.{take_all, take_at, drop_at}
 use Rattle.std.proofs.lemmas.Bool.{cond-true, cond-false, eqb-true, eqb-false, eq-eqb, ne_eqb}
 use Rattle.fault.specs.declared.Fault.{Fault}
 use Rattle.lines.specs.declared.Field.{Field}
@@ -76,6 +76,17 @@ spaced_written f at s x n t e = go (front f at s) refl e
   where
     go : (r : Result ℕ Fault) → front f at s ≡ r → then r (λ n. behind (take n s) (at + n) (drop n s)) ≡ Ok (x, n, t) → Written f x
     go (Ok m) is e = subst (Written f) (sym (behind_first (take m s) (at + m) (drop m s)) ∙ ap (λ r. first r (take m s)) e) (front_shape f at s m is)
+    go (Err g) is e = cc
+
+pub last_written : (f : Field) (at : ℕ) (s x : List ℕ) → last f at s ≡ Ok x → Written f x
+last_written f at s x e = go (front f at s) refl e
+  where
+    all : (m : ℕ) (d : Bool) → eqb m (length s) ≡ d → Written f (take m s) → cond d (Ok s) (misfit (at + m)) ≡ Ok x → Written f x
+    all m true d w e = subst (Written f) (take_all m s (omega (arith, eqb-true m (length s) d)) ∙ cc) w
+    all m false d w e = cc
+
+    go : (r : Result ℕ Fault) → front f at s ≡ r → then r (λ n. cond (eqb n (length s)) (Ok s) (misfit (at + n))) ≡ Ok x → Written f x
+    go (Ok m) is e = all m (eqb m (length s)) refl (front_shape f at s m is) e
     go (Err g) is e = cc
 
 -- ---- a text that has the fields is cut into them

@@ -10,6 +10,10 @@ use Rattle.octets.specs.Zeros.{every, blank, zeros}
 use Rattle.octets.proofs.Under.{Under256, under_first, under_rest, under_take, under_drop}
 use Rattle.octets.proofs.Zeros.{blank_zeros}
 
+pub length_little : (c n : ℕ) → length (little c n) ≡ c
+length_little zero n = refl
+length_little (suc c) n = ap suc (length_little c (n / 256))
+
 -- ---- there and back
 
 pub little_bytes : (c n : ℕ) → Under256 (little c n)

@@ -1,6 +1,7 @@
 // Report: the slots of a register, shown in a page.
-ghost use Rattle.std.specs.Prelude.{◌≡◌, ◌≤◌, length, Ok, nat_lt};
+ghost use Rattle.std.specs.Prelude.{◌≡◌, ◌+◌, ◌<◌, ◌≤◌, length, Ok, nat_lt};
 ghost use Rattle.fault.specs.Refusals.{too_short};
+ghost use Rattle.layout.specs.Layout.{Laid, content};
 ghost use Rattle.plans.specs.Plans.{refused_if, reported};
 ghost use Rattle.register.specs.Reports.{Shown};
 ghost use Rattle.register.specs.Kept.{kept_by};
@@ -27,13 +28,21 @@ fn check_page(page: &[u8]) -> Result<(), Fault>
 }
 
 impl<K: Kind, D: Device> Resting<'_, K, D> {
+    // The bytes of the j-th block of slots.
+    fn read_slots(&self, j: u16) -> Result<[u8; 512], Fault>
+        requires { j < 64 }
+        ensures { Laid (14 + j) → result ≡ Ok (content K.Kind.code K.Kind.form (kept_by K.Kind D.Device self.now) (14 + j)) }
+    {
+        self.block(SLOTS + j)
+    }
+
     // Fills the page with the blocks of the slots, one behind the other.
     fn fill(&self, page: &mut [u8]) -> Result<(), Fault>
         requires { 32768 ≤ length page.old }
         ensures { (result ≡ Ok tt) × (page.new ≡ reported K.Kind.code K.Kind.form (kept_by K.Kind D.Device self.now) page.old) }
     {
         for j in 0..64 {
-            let block = self.block(SLOTS + j)?;
+            let block = self.read_slots(j)?;
             put(page, 512 * usize::from(j), &block);
         }
         Ok(())

@@ -1,7 +1,9 @@
 // Take: a pack leaves the stock, and the sample if it is there.
-ghost use Rattle.std.specs.Prelude.{◌≡◌, ℕ, ◌+◌, ◌-◌, ◌<◌, ◌≤◌, ◌==◌, length, take, position, IfSome, Some, None, Ok};
+ghost use Rattle.std.specs.Prelude.{◌≡◌, ℕ, ◌+◌, ◌-◌, ◌<◌, ◌≤◌, ◌==◌, length, take, position, is_some, IfSome, Some, None, Ok};
+ghost use Rattle.std.specs.Option.{SomeIff, option_map};
 ghost use Rattle.octets.specs.Zeros.{zeros};
 ghost use Rattle.pairing.specs.Reservoir.{taken, slot_of};
+ghost use Rattle.pairing.specs.Rules.{CanTake, after_take};
 ghost use Rattle.journal.specs.Writes.{write_at};
 ghost use Rattle.journal.specs.declared.headers.PendingCall.TheVariants as pending;
 ghost use Rattle.layout.specs.Layout.{content};
@@ -68,6 +70,13 @@ impl Freed {
     }
 }
 
+// The counters after a take, by the slot that it frees.
+fn after_take(counters: Counters, slot: Option<u16>) -> Option<Counters>
+    ensures { SomeIff (option_map (λ c. c.counts) result) (CanTake (is_some slot) counters.counts) (after_take (is_some slot) counters.counts) }
+{
+    counters.after_take(slot.is_some())
+}
+
 // The journal header of a take, by the counters before it.
 fn header(counters: Counters, number: u16, blocks: [u16; 4]) -> Pending
     ensures { result ≡ record { call = pending.Take; number = number; calls = counters.counts.calls + 1; words = counters.counts.words; blocks = blocks } }
@@ -87,9 +96,16 @@ impl<K: Kind, D: Device> Resting<'_, K, D> {
     fn slot(&self, number: u16) -> Option<u16>
         ensures { result ≡ slot_of (kept_by K.Kind D.Device self.now).slots number }
     {
-        let sampled = usize::from(self.found.counters.get().sampled);
-        let slot = place_of(&self.found.sampled.numbers[..sampled], number)?;
+        let slot = place_of(self.numbers(), number)?;
         Some(slot as u16)
+    }
+
+    // The numbers of the slots in use.
+    fn numbers(&self) -> &[u16]
+        ensures all { result.now ≡ take self.now.found.counters.counts.sampled self.now.found.sampled.numbers }
+        ensures few { length result.now ≤ 512 }
+    {
+        &self.found.sampled.numbers[..usize::from(self.found.counters.get().sampled)]
     }
 
     // The changes of the slots where a slot is freed: of its block, and of the last slot's.
@@ -131,7 +147,7 @@ impl<K: Kind, D: Device> Resting<'_, K, D> {
         let counters = self.found.counters;
         let slot = self.slot(number);
         // not reached: the take can be made
-        let after = counters.after_take(slot.is_some()).ok_or(Fault::LAST_CALL)?;
+        let after = after_take(counters, slot).ok_or(Fault::LAST_CALL)?;
         let [first, second] = self.slot_changes(slot)?;
         let mut stock = self.found.stock;
         stock.remove(number);

@@ -4,7 +4,7 @@
 #[cfg(test)]
 mod tests {
     use device::{Entry, Failing, Image, Remains};
-    use fault::{Damage, Fault};
+    use fault::{Damage, Fault, Place};
     use items::{Label, WardBox};
     use pairing::Counts;
     use plans::Opened;
@@ -41,6 +41,42 @@ mod tests {
         assert_eq!(rt; width, 3);
         assert_eq!(rt; draw, 2);
         assert!(rt; slot.is_none());
+        Ok(())
+    }
+
+    // The refusal's number and block, and its cause, 0 where it has none.
+    fn told(fault: Fault) -> (u8, u16, u8) {
+        let block = match fault.place() {
+            Place::Block(b) => b,
+            _ => 999,
+        };
+        let cause = fault.damage().map_or(0, |damage| damage.number());
+        (fault.number(), block, cause)
+    }
+
+    // The numbers of the refusals that these tests expect: of two that are equal they are the same.
+    #[test]
+    fn refusals_have_their_numbers(rt: HostRuntime) -> Result<(), Fail> {
+        for (damage, cause) in [
+            (Damage::Unreadable, 1),
+            (Damage::Mark, 2),
+            (Damage::Range, 3),
+            (Damage::Disagreement, 4),
+            (Damage::OtherKind, 5),
+        ] {
+            for block in [0, 1, 6, 13, 14, 15, 77] {
+                let fault = Fault::not_register(block, damage);
+                assert_eq!(rt; told(fault), (3, block, cause));
+            }
+        }
+        for block in 0..78 {
+            assert_eq!(rt; told(Fault::offline(block)), (1, block, 0));
+        }
+        assert_eq!(rt; told(Fault::NOT_FREE), (4, 1, 0));
+        assert_eq!(rt; Fault::BAD_CAPACITY.number(), 11);
+        let too_few = Fault::too_few_blocks(77);
+        assert_eq!(rt; too_few.number(), 2);
+        assert_eq!(rt; too_few.place(), Place::Count(77));
         Ok(())
     }
 

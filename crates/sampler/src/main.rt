@@ -24,7 +24,7 @@ fn main(rt: HostRuntime) -> anyhow::Result<ExitCode> {
     match run(&rt) {
         Ok(()) => Ok(ExitCode::SUCCESS),
         Err(why) => {
-            eprintln!(rt; "sampler: {why:#}")?;
+            eprintln!(rt; "sampler: {why}")?;
             Ok(ExitCode::FAILURE)
         }
     }

@@ -3,7 +3,7 @@ use crate::files::{read_file, read_or_zeros, save};
 use crate::replies::{call_of, number_of, print_reply};
 use crate::scans::entries;
 use crate::windows::Window;
-use anyhow::{Context, anyhow};
+use anyhow::anyhow;
 use device::Image;
 use fault::Fault;
 use intake::Entry;
@@ -22,6 +22,11 @@ pub(crate) fn kind_named(name: &str) -> anyhow::Result<ItemKind> {
     name.parse().map_err(|why| anyhow!("{name} is {why}"))
 }
 
+// The refusal of the register in this file, as one message: an error keeps 120 bytes of it.
+pub(crate) fn refused(path: &str, fault: Fault) -> anyhow::Error {
+    anyhow!("{path}: {fault}")
+}
+
 // Makes a register in the image, which is made too where there is none.
 pub(crate) fn make_image(
     rt: &HostRuntime,
@@ -32,15 +37,14 @@ pub(crate) fn make_image(
     let kind = kind_named(kind)?;
     let capacity = capacity
         .parse::<u16>()
-        .map_err(|_| Fault::BAD_CAPACITY)
-        .context(path)?;
+        .map_err(|_| refused(path, Fault::BAD_CAPACITY))?;
     let mut bytes = read_or_zeros(rt, path, IMAGE_BYTES)?;
     let mut image = Image::new(bytes.as_mut_slice());
     let made = match kind {
         ItemKind::Label => make::<Label, Image>(&mut image, capacity),
         ItemKind::WardBox => make::<WardBox, Image>(&mut image, capacity),
     };
-    made.context(path)?;
+    made.map_err(|fault| refused(path, fault))?;
     save(rt, path, bytes.as_slice())
 }
 
@@ -52,8 +56,8 @@ pub(crate) fn compare(rt: &HostRuntime, left: &str, right: &str, kind: &str) -> 
     match same_images(kind, left_bytes.as_mut_slice(), right_bytes.as_mut_slice()) {
         Ok(true) => println!(rt; "same")?,
         Ok(false) => println!(rt; "different")?,
-        Err(SideFault::Left(fault)) => return Err(fault).context(left),
-        Err(SideFault::Right(fault)) => return Err(fault).context(right),
+        Err(SideFault::Left(fault)) => return Err(refused(left, fault)),
+        Err(SideFault::Right(fault)) => return Err(refused(right, fault)),
     }
     Ok(())
 }
@@ -82,7 +86,7 @@ pub(crate) fn scan_file(
         bytes: tape.as_slice(),
     };
     let mut image = Image::new(bytes.as_mut_slice());
-    open::<Label, Image>(&mut image).context(path)?;
+    open::<Label, Image>(&mut image).map_err(|fault| refused(path, fault))?;
     let mut replies = Vec::with_capacity(rt.alloc(), table.len())?;
     for entry in table.as_slice() {
         replies.push(do_entry(&mut image, tape, *entry))?;

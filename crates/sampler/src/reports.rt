@@ -1,8 +1,8 @@
 // Reports: the counters of a register, and what its sample holds.
 use crate::files::{read_file, save};
-use crate::registers::kind_named;
+use crate::registers::{kind_named, refused};
 use crate::windows::Window;
-use anyhow::{Context, anyhow, bail};
+use anyhow::{anyhow, bail};
 use device::Image;
 use fault::Fault;
 use items::{ItemKind, Kind, Label, WardBox};
@@ -73,12 +73,13 @@ fn report_into<K: Kind, J: Kind>(
     let mut calls: Vec<Call<K, J, Window>> = Vec::with_capacity(rt.alloc(), 1)?;
     calls.push(Call::Own(Request::Report))?;
     let mut replies = [Err(Fault::TOO_SHORT)];
-    let opened = resume(&mut image, calls.as_slice(), page, &mut replies).context(path)?;
+    let opened = resume(&mut image, calls.as_slice(), page, &mut replies);
+    let opened = opened.map_err(|fault| refused(path, fault))?;
     if opened.finished.is_some() {
         save(rt, path, bytes.as_slice())?;
     }
     let [reply] = replies;
-    match reply.context(path)? {
+    match reply.map_err(|fault| refused(path, fault))? {
         Answer::Reported(counts) => Ok(counts),
         _ => Err(anyhow!("no report")),
     }

@@ -2,6 +2,8 @@ ghost use Rattle.std.specs.Prelude.{◌≡◌, ℕ, Option};
 ghost use Rattle.std.specs.Option.{option_or};
 ghost use Rattle.words.specs.Sources.{tape_word};
 
+use octets::u32_at;
+
 // A source of words. Asking changes nothing, and a place always has the same answer.
 pub trait Source {
     // the word at each place, if there is one
@@ -21,10 +23,18 @@ impl Source for Tape<'_> {
     ghost words = { λ tape. tape_word tape.bytes.now };
 
     fn word(&self, place: u64) -> Option<u32> {
-        let (words, _) = self.bytes.as_chunks::<4>();
-        let word = words.get(place as usize)?;
-        Some(u32::from_le_bytes(*word))
+        word_in(self.bytes, place as usize)
     }
+}
+
+// The word at a place of the bytes, if all four of its bytes are there.
+fn word_in(bytes: &[u8], place: usize) -> Option<u32>
+    ensures { result ≡ tape_word bytes.now place }
+{
+    if place >= bytes.len() / 4 {
+        return None;
+    }
+    Some(u32_at(bytes, 4 * place))
 }
 
 // Two sources: the first's words, and the second's where the first has none.

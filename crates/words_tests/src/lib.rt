@@ -13,10 +13,11 @@ mod tests {
         })
     }
 
-    // Whether it is refused, as no draw is given.
+    // Whether it is refused with number 10, as no draw is given.
     fn refuses<S: Source>(source: &S, width: u16, place: u64) -> bool {
         Width::new(width).is_some_and(|width| {
             words::draw(source, width, place) == Err(Fault::NO_DRAW)
+                && Fault::NO_DRAW.number() == 10
         })
     }
 
