@@ -13,6 +13,7 @@ use Rattle.intake.specs.declared.field.State.TheVariants.{Empty, Filling, Overlo
 -- ---- a field has 100 bytes
 
 pub holds_size : (line : List ℕ) (state : State) (bytes : List ℕ) → Holds line state bytes → length bytes ≡ 100
+unfolding zeros
 holds_size line state bytes h =
     let long : 100 ≤ length (line ++ zeros) = simp length-append (omega arith) in
     ap length h.bytes_are ∙ length-take-le 100 (line ++ zeros) long
@@ -84,6 +85,7 @@ set_take m xs i b =
         set_past (take m xs) i b short ∙ sym (take-set-le m xs i b above)
 
 pub bytes_more : (line : List ℕ) (b : ℕ) → set (take 100 (line ++ zeros)) (length line) b ≡ take 100 ((line ++ b ∷ []) ++ zeros)
+unfolding zeros
 bytes_more line b =
     let rest : List ℕ = replicate 99 0 in
     let long : 100 ≤ length (line ++ b ∷ rest) = simp length-append (omega arith) in

@@ -5,7 +5,8 @@ use Rattle.intake.specs.Lines.{Entry, entry_of}
 use Rattle.intake.specs.declared.field.State.{State}
 use Rattle.intake.specs.declared.field.State.TheVariants.{Empty, Filling, Overlong}
 
-abbrev pub zeros : List ℕ
+-- the empty field (`unfoldable`: a proof that only hands it on need not carry a hundred bytes)
+unfoldable pub zeros : List ℕ
 zeros = replicate 100 0
 
 -- the state that the bytes leave

@@ -1,8 +1,9 @@
 -- What the intake of a scan answers, and what it leaves in the table and in the buffer.
 -- Assumes nothing.
-use Rattle.std.specs.Prelude.{ℕ, Bool, cond, ◌||◌, List, ◌++◌, length, drop, replicate, Ok, Err, Result, nat_lt}
+use Rattle.std.specs.Prelude.{ℕ, Bool, cond, ◌||◌, List, ◌++◌, length, drop, Ok, Err, Result, nat_lt}
 use Rattle.fault.specs.declared.Fault.{Fault}
 use Rattle.fault.specs.Refusals.{too_short}
+use Rattle.intake.specs.Field.{zeros}
 use Rattle.intake.specs.Lines.{Entry, entries}
 
 -- the table has fewer entries than there are lines to fill
@@ -22,4 +23,4 @@ filled refuses input table = cond refuses table (entries input ++ drop (length (
 
 -- the field, the first 100 bytes, is zeros; a buffer with no room for it is as it was
 abbrev pub wiped : List ℕ → List ℕ
-wiped buffer = cond (nat_lt (length buffer) 100) buffer (replicate 100 0 ++ drop 100 buffer)
+wiped buffer = cond (nat_lt (length buffer) 100) buffer (zeros ++ drop 100 buffer)

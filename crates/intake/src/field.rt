@@ -1,4 +1,6 @@
 // The scan field: the bytes scanned since the last confirm or cancel, in memory that the caller lends.
+#![tactic(auto, unfolding(crate::specs::Field::zeros))]
+
 ghost use Rattle.std.specs.Prelude.{◌≡◌, ℕ, ◌+◌, ◌≤◌, List, if◌then◌else◌, nat_lt, slice_set};
 ghost use Rattle.intake.specs.Field.{Holds, Scanned, confirm_of, shown, zeros};
 ghost use Rattle.intake.specs.declared.field.State.TheVariants.{Empty, Filling, Overlong};

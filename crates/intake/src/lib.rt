@@ -65,6 +65,7 @@ fn fill(input: &[u8], field: &mut Field, table: &mut [Entry]) -> usize
 }
 
 // Scans over the field's bytes, which are zeros again on every way out.
+#[tactic(auto, unfolding(crate::specs::Field::zeros))]
 fn scan_over(input: &[u8], bytes: &mut [u8; FIELD], table: &mut [Entry]) -> Result<usize, Fault>
     ensures answer { result ≡ answer (overfull input.now table.old) input.now }
     ensures filled { table.new ≡ filled (overfull input.now table.old) input.now table.old }
@@ -83,6 +84,7 @@ fn scan_over(input: &[u8], bytes: &mut [u8; FIELD], table: &mut [Entry]) -> Resu
 
 // Fills the table, from its front, with what each confirmed line of the scan comes to, and answers how many
 // they are. The first 100 bytes of the buffer are the scan field.
+#[tactic(auto, using(crate::proofs::Strikes::entries_struck))]
 pub fn intake(input: &[u8], buffer: &mut [u8], table: &mut [Entry]) -> Result<usize, Fault>
     ensures answer { result ≡ answer (refused input.now buffer.old table.old) input.now }
     ensures filled { table.new ≡ filled (refused input.now buffer.old table.old) input.now table.old }
